@@ -1,0 +1,22 @@
+-- The fewest links from s to t, by layers of the node set.
+-- Assumes nothing.
+use Prim.Native.Nat.{ℕ}
+use mathlib.Core.Bool.{Bool, cond, _&&_}
+use Rattle.network.specs.Loops.{iter, first}
+use Rattle.network.specs.Net.{Net}
+use Rattle.network.specs.NodeSet.{member, inserted}
+
+-- a usable link out of the set adds its head
+abbrev pub spreadLink : Net → ℕ → ℕ → ℕ → ℕ
+spreadLink g set i more = let wider : ℕ = inserted more (g .head i) in cond (g .usable i && member set (g .tail i)) wider more
+
+unfoldable pub spread : Net → ℕ → ℕ
+spread g set = iter (spreadLink g set) (g .links) set
+
+-- the nodes that at most k links reach
+unfoldable pub layer : Net → ℕ → ℕ → ℕ
+layer g s k = iter (λ _. spread g) k (inserted 0 s)
+
+-- the number of nodes where there is no path: a path has fewer links
+unfoldable pub distance : Net → ℕ → ℕ → ℕ
+distance g s t = first (λ k. member (layer g s k) t) (g .nodes)

@@ -1,0 +1,5 @@
+pub mod Table
+pub mod Trace
+pub mod Solve
+pub mod Distance
+pub mod Search

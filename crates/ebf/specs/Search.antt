@@ -1,0 +1,35 @@
+-- The whole search: section 2.3 of the paper. A function of the network and the request alone.
+-- Assumes nothing.
+use Prim.Native.Nat.{ℕ}
+use mathlib.Core.Bool.{cond}
+use mathlib.Core.List.{List}
+use mathlib.Core.Option.{Option, none, some}
+use lib.Dec.{ltb}
+use Rattle.network.specs.Net.{Net}
+use Rattle.network.specs.declared.Request.{Request}
+use Rattle.network.specs.Reduce.{Outcome, no-path, no-solution, granted, one, two}
+use Rattle.ebf.specs.Distance.{distance}
+use Rattle.ebf.specs.Solve.{solve}
+
+-- what problem `which` answers
+abbrev pub outcomeOf : ℕ → Option (List ℕ) → Outcome
+outcomeOf which (some p) = granted which p
+outcomeOf which none = no-solution
+
+-- the first answer, or where it is no solution the second
+abbrev pub orElse : Outcome → Outcome → Outcome
+orElse no-path b = no-path
+orElse no-solution b = b
+orElse (granted which p) b = granted which p
+
+-- both problems, where the distance is k
+unfoldable pub tried : Net → Request → ℕ → Outcome
+tried g r k =
+    let second : Outcome = outcomeOf 2 (solve g (two g r k) (r .source) (r .target)) in
+    orElse (outcomeOf 1 (solve g (one g r k) (r .source) (r .target))) second
+
+unfoldable pub search : Net → Request → Outcome
+search g r =
+    let k : ℕ = distance g (r .source) (r .target) in
+    let found : Outcome = tried g r k in
+    cond (ltb k (g .nodes)) found no-path

@@ -1,0 +1,9 @@
+pub mod Tests
+pub mod Loops
+pub mod NodeSet
+pub mod Scaling
+pub mod Paths
+pub mod Few
+pub mod Short
+pub mod Cut
+pub mod Bounds

@@ -1,0 +1,99 @@
+-- Laws of counted loops: a loop's three needs, what it keeps, and when it may stop early.
+-- Assumes nothing.
+use mathlib.Core.Path.{_≡_, refl, sym, _∙_, ap, subst}
+use mathlib.Core.Bool.{Bool, true, false, cond, false≢true}
+use mathlib.Core.Logic.{⊎-elim}
+use Prim.Native.Nat.{ℕ, zero, suc, _+_, _<_, _≤_}
+use native.Mathlib.Nat.{zero-add, suc-add, eq-or-lt-of-le, le-refl}
+use native.Mathlib.Numerals.{add-one}
+use native.Mathlib.Omega.{arith}
+use lib.Dec.{ltb}
+use borrow.Author.Tests.{ltb-true, ltb-false}
+use Rattle.network.specs.Loops.{iter, first}
+use Rattle.network.proofs.Tests.{by-eq, by-lt, by-test, by-bool}
+
+module _ {A : Type 0} (f : ℕ → A → A) where
+  -- before the first turn
+  pub iter-none : (a : A) → a ≡ iter f 0 a
+  unfolding iter
+  iter-none a = refl
+
+  -- one more turn: the loop's invariant from the body's contract
+  pub iter-more : (n : ℕ) (a : A) {b d : A} → b ≡ iter f n a → d ≡ f n b → d ≡ iter f (n + 1) a
+  unfolding iter
+  iter-more n a h q = rw (add-one, ← h) q
+
+  -- after the last turn
+  pub iter-done : (n m : ℕ) (a : A) {b : A} → b ≡ iter f n a → n ≡ m → b ≡ iter f m a
+  iter-done n m a h q = h ∙ ap (λ k. iter f k a) q
+
+  -- where no turn changes the state any more, further turns change nothing
+  pub iter-stays : (n d : ℕ) (a b : A) → b ≡ iter f n a → ((i : ℕ) → f i b ≡ b) → b ≡ iter f (d + n) a
+  unfolding iter
+  iter-stays n zero a b h same = rw zero-add h
+  iter-stays n (suc d) a b h same = rw (suc-add, ← iter-stays n d a b h same) (sym (same (d + n)))
+
+  -- what each turn keeps, the loop keeps
+  pub iter-keeps : (P : A → Type 0) (n : ℕ) (a : A) → ((i : ℕ) (b : A) → i < n → P b → P (f i b)) → P a → P (iter f n a)
+  unfolding iter
+  iter-keeps P zero a step h = h
+  iter-keeps P (suc n) a step h = step n _ (omega arith) (iter-keeps P n a (λ i b l. step i b (omega arith)) h)
+
+  -- a turn that brings a fact about, and turns that keep it
+  pub iter-brings : (P : A → Type 0) (j : ℕ) → ((a : A) → P (f j a)) → ((i : ℕ) (a : A) → P a → P (f i a)) → (n : ℕ) → j < n → (a : A) → P (iter f n a)
+  unfolding iter
+  iter-brings P j brings keeps zero low a = absurd (omega arith)
+  iter-brings P j brings keeps (suc n) low a =
+      ⊎-elim (λ e. subst (λ (m : ℕ). P (f m (iter f n a))) e (brings (iter f n a))) (λ l. keeps n (iter f n a) (iter-brings P j brings keeps n l a))
+      (eq-or-lt-of-le (omega arith))
+
+  -- two runs that each turn keeps related
+  pub iter-both : (R : A → A → Type 0) (n : ℕ) → ((i : ℕ) (a b : A) → i < n → R a b → R (f i a) (f i b)) → (a b : A) → R a b → R (iter f n a) (iter f n b)
+  unfolding iter
+  iter-both R zero step a b h = h
+  iter-both R (suc n) step a b h = step n _ _ (omega arith) (iter-both R n (λ i a b l. step i a b (omega arith)) a b h)
+
+-- turns that all do the same: the first may be taken first
+pub iter-first : {A : Type 0} (g : A → A) (n : ℕ) (a : A) → iter (λ _. g) (suc n) a ≡ iter (λ _. g) n (g a)
+unfolding iter
+iter-first g zero a = refl
+iter-first g (suc n) a = ap g (iter-first g n a)
+
+-- ---- the first number at which a test passes
+module _ (f : ℕ → Bool) where
+  pub first-most : (n : ℕ) → first f n ≤ n
+  unfolding first
+  first-most zero = le-refl _
+  first-most (suc n) =
+      by-test (ltb (first f n) n) (first f n) (cond (f n) n (suc n)) (λ (k : ℕ). k ≤ suc n) (λ e. omega (arith, first-most n))
+      (λ e. by-test (f n) n (suc n) (λ (k : ℕ). k ≤ suc n) (λ q. omega arith) (λ q. le-refl _))
+
+  pub first-passes : (n : ℕ) → first f n < n → f (first f n) ≡ true
+  unfolding first
+  first-passes zero low = absurd (omega arith)
+  first-passes (suc n) low =
+      by-test (ltb (first f n) n) (first f n) (cond (f n) n (suc n)) (λ (k : ℕ). k < suc n → f k ≡ true)
+      (λ e l. first-passes n (ltb-true _ _ e))
+      (λ e. by-test (f n) n (suc n) (λ (k : ℕ). k < suc n → f k ≡ true) (λ q l. q) (λ q l. absurd (omega arith))) low
+
+  pub first-before : (n j : ℕ) → j < first f n → f j ≡ false
+  unfolding first
+  first-before zero j low = absurd (omega arith)
+  first-before (suc n) j low =
+      by-test (ltb (first f n) n) (first f n) (cond (f n) n (suc n)) (λ (k : ℕ). j < k → f j ≡ false)
+      (λ e l. first-before n j l)
+      (λ e.
+      let high : n ≤ first f n = ltb-false _ _ e in
+      by-test (f n) n (suc n) (λ (k : ℕ). j < k → f j ≡ false) (λ q l. first-before n j (omega arith))
+      (λ q l. by-eq j n (λ z. rw z q) (λ z. first-before n j (omega arith)))) low
+
+  -- a number below n that passes where none before it does
+  pub first-here : (n k : ℕ) → ((j : ℕ) → j < k → f j ≡ false) → k < n → f k ≡ true → k ≡ first f n
+  first-here n k none low pass =
+      by-lt k (first f n) (λ l. absurd (false≢true (sym (first-before n k l) ∙ pass)))
+      (λ l.
+      by-lt (first f n) k (λ m. absurd (false≢true (sym (none (first f n) m) ∙ first-passes n (omega arith)))) (λ m. omega arith))
+
+  pub first-nowhere : (n : ℕ) → ((j : ℕ) → j < n → f j ≡ false) → n ≡ first f n
+  first-nowhere n none =
+      by-lt (first f n) n (λ l. absurd (false≢true (sym (none (first f n) l) ∙ first-passes n l))) (λ l. omega (arith, first-most n))

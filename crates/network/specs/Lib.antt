@@ -1,0 +1,9 @@
+pub mod Lists
+pub mod Loops
+pub mod NodeSet
+pub mod Net
+pub mod Scale
+pub mod Problem
+pub mod Reduce
+pub mod Words
+pub mod Cut

@@ -1,0 +1,51 @@
+-- The two problems that a request is reduced to, and what a search may find.
+-- Assumes nothing.
+use Prim.Native.Nat.{ℕ, _*_}
+use mathlib.Core.List.{List}
+use Rattle.network.specs.declared.Request.{Request}
+use Rattle.network.specs.Net.{Net}
+use Rattle.network.specs.Scale.{scaled}
+use Rattle.network.specs.Problem.{Problem, Best, NoPath, NoSolution, Distance}
+
+-- document 01's D and C
+abbrev pub delayBound : Request → ℕ
+delayBound r = r .«delay_bound»
+
+abbrev pub costBound : Request → ℕ
+costBound r = r .«cost_bound»
+
+-- problem one: delay is kept, cost is scaled
+unfoldable pub problemOne : Net → Request → ℕ → Problem
+problemOne g r x =
+    record { kept = g .delay; bound = delayBound r; scaledBy = λ i. scaled x (costBound r) (g .cost i); x = x }
+
+-- problem two: cost is kept, delay is scaled
+unfoldable pub problemTwo : Net → Request → ℕ → Problem
+problemTwo g r x =
+    record { kept = g .cost; bound = costBound r; scaledBy = λ i. scaled x (delayBound r) (g .delay i); x = x }
+
+-- a search ends with no path, with no solution, or with the path that a problem, 1 or 2, granted
+pub data Outcome : Type 0 where
+  no-path : Outcome
+  no-solution : Outcome
+  granted : (problem : ℕ) → (path : List ℕ) → Outcome
+
+module _ (g : Net) (r : Request) where
+  -- both problems where the distance is k: x = coefficient × k
+  abbrev pub one : ℕ → Problem
+  one k = problemOne g r (r .coefficient * k)
+
+  abbrev pub two : ℕ → Problem
+  two k = problemTwo g r (r .coefficient * k)
+
+  -- what a search must find: the second problem counts only where the first has no solution
+  pub data Found : Outcome → Type 0 where
+    none : NoPath g (r .source) (r .target) → Found no-path
+    unsolved : (k : ℕ) → Distance g (r .source) (r .target) k → NoSolution g (one k) (r .source) (r .target)
+        → NoSolution g (two k) (r .source) (r .target)
+        → Found no-solution
+    by-one : (k : ℕ) (p : List ℕ) → Distance g (r .source) (r .target) k → Best g (one k) (r .source) (r .target) p
+        → Found (granted 1 p)
+    by-two : (k : ℕ) (p : List ℕ) → Distance g (r .source) (r .target) k → NoSolution g (one k) (r .source) (r .target)
+        → Best g (two k) (r .source) (r .target) p
+        → Found (granted 2 p)

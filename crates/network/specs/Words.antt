@@ -1,0 +1,33 @@
+-- The network that link words and flags describe: five words a link, in the order from, to, delay, cost, capacity.
+-- Assumes nothing.
+use Prim.Native.Nat.{ℕ, _+_, _*_, _≤_, _<_}
+use mathlib.Core.Path.{_≡_}
+use mathlib.Core.List.{List}
+use lib.Dec.{eqb}
+use lib.ListN.{length, getD}
+use Rattle.network.specs.Net.{Net}
+
+-- word j of link i
+abbrev pub field : List ℕ → ℕ → ℕ → ℕ
+field words i j = getD words (5 * i + j) 0
+
+-- n nodes, m links with these words; a link whose flag is 1 is usable
+unfoldable pub netOf : ℕ → ℕ → List ℕ → List ℕ → Net
+netOf n m words flags =
+    record {
+      nodes = n;
+      links = m;
+      tail = λ i. field words i 0;
+      head = λ i. field words i 1;
+      usable = λ i. eqb (getD flags i 0) 1;
+      delay = λ i. field words i 2;
+      cost = λ i. field words i 3;
+    }
+
+-- the words are those of m links between n nodes, each in its range
+pub record LinkWords (n m : ℕ) (words : List ℕ) : Type 0 where
+  pub whole : length words ≡ 5 * m
+  pub from : (i : ℕ) → i < m → field words i 0 < n
+  pub to : (i : ℕ) → i < m → field words i 1 < n
+  pub delay : (i : ℕ) → i < m → field words i 2 ≤ 1000000
+  pub cost : (i : ℕ) → i < m → field words i 3 ≤ 1000000

@@ -1,0 +1,4 @@
+pub mod Ready
+pub mod Solver
+pub mod Forward
+pub mod Answers

@@ -1,0 +1,32 @@
+-- The problem that prepared weights describe, and what the solver's functions rely on.
+-- Assumes nothing.
+use Prim.Native.Nat.{ℕ, _≤_, _<_}
+use mathlib.Core.Path.{_≡_}
+use mathlib.Core.Bool.{Bool, false}
+use mathlib.Core.List.{List}
+use lib.ListN.{getD}
+use Rattle.network.specs.Problem.{Problem}
+use Rattle.ebf.specs.declared.Trail.{Trail}
+use Rattle.route.specs.declared.Reduced.{Reduced}
+use Rattle.route.specs.Ready.{Links}
+
+-- the kept weights and the scaled weights as columns with an entry for each link
+unfoldable pub problemOf : Reduced → List ℕ → List ℕ → Problem
+problemOf p kept scaled =
+    record { kept = λ i. getD kept i 0; bound = p .bound; scaledBy = λ i. getD scaled i 0; x = p .x }
+
+pub record Sound (p : Reduced) (links usable kept : List ℕ) : Type 0 where
+  pub table : Links (p .nodes) (p .links) links usable
+  pub x : p .x ≤ 248
+  pub bound : p .bound ≤ 31000000
+  pub weight : (i : ℕ) → i < p .links → getD kept i 0 ≤ 1000000
+
+-- what a function that says false tells: the words are as they were, and it was told of no change before
+pub record Same (changed : Bool) (before after : List ℕ) : Type 0 where
+  pub words : before ≡ after
+  pub told : changed ≡ false
+
+-- the trail is at a cell of the table
+pub record OnTable (p : Reduced) (w : Trail) : Type 0 where
+  pub node : w .node < 32
+  pub column : w .column ≤ p .x

@@ -1,0 +1,128 @@
+// The route search of document 01, the lower crate: a path within a delay bound and a cost bound by the extended
+// Bellman-Ford search, problem one and else problem two. Line numbers are those of the paper.
+ghost use mathlib.Core.Path.{_≡_};
+ghost use Rattle.network.specs.Words.{netOf};
+ghost use Rattle.ebf.specs.Search.{search};
+ghost use Rattle.route.specs.Answers.{answerOf, pathAfter};
+ghost use Rattle.route.specs.Ready.{Ready};
+
+pub mod attempt;
+pub mod distance;
+pub mod path;
+pub mod rounds;
+pub mod table;
+pub mod trace;
+pub mod weights;
+
+use crate::attempt::attempt;
+use crate::distance::distance;
+use network::Request;
+use network::link;
+use crate::weights::column;
+use crate::weights::scaled_column;
+
+// The numbers of one reduced problem: how many nodes and links, the bound x of the scaled weight and the bound
+// of the kept weight.
+pub struct Reduced {
+    pub nodes: usize,
+    pub links: usize,
+    pub x: usize,
+    pub bound: u32,
+}
+
+// How far a path has come: the node, and the links, the delay and the cost so far.
+pub struct Leg {
+    pub node: usize,
+    pub links: usize,
+    pub delay: u32,
+    pub cost: u32,
+}
+
+// A granted path: the problem that granted it, 1 or 2, its delay, its cost and its number of links.
+pub struct Grant {
+    pub problem: u32,
+    pub delay: u32,
+    pub cost: u32,
+    pub links: u32,
+}
+
+// What a search answers.
+pub enum Answer {
+    // No usable path exists.
+    NoPath,
+    // Usable paths exist, and none solves either problem.
+    NoSolution,
+    Granted(Grant),
+}
+
+// Searches for a path for request `r` among `m` links and `n` nodes; a link whose flag in `usable` is 1 is usable.
+// A granted path stands in the first words of `path`. Work memory may hold anything before, and is open after.
+// The `requires` are the ranges and lengths that the upper crate has checked before it searches.
+pub fn search(
+    n: usize,
+    m: usize,
+    links: &[u32],
+    usable: &[u32],
+    work: &mut [u32],
+    path: &mut [u32],
+    r: Request,
+) -> Answer
+    requires { ⌜ Ready n m (now links) (now usable) (now work) (now path) r ⌝ }
+    ensures answer { λ a. ⌜ a ≡ answerOf (netOf n m (now (links .entry)) (now (usable .entry))) (search (netOf n m (now (links .entry)) (now (usable .entry))) r) ⌝ }
+    ensures path { λ a. ⌜ now (path .exit) ≡ pathAfter (search (netOf n m (now (links .entry)) (now (usable .entry))) r) (now (path .entry)) ⌝ }
+{
+    let s = link::wide(r.source);
+    let t = link::wide(r.target);
+    let far = distance(n, m, links, usable, s, t);
+    if n <= far {
+        return Answer::NoPath;
+    }
+    let x = link::wide(r.coefficient) * far;
+    let delay = column(links, m, link::DELAY);
+    let cost = column(links, m, link::COST);
+    let scaled_cost = scaled_column(&cost, m, x, r.cost_bound);
+    let one = Reduced {
+        nodes: n,
+        links: m,
+        x: x,
+        bound: r.delay_bound,
+    };
+    let first = attempt(
+        work,
+        path,
+        links,
+        usable,
+        &delay,
+        &cost,
+        &delay,
+        &scaled_cost,
+        one,
+        s,
+        t,
+        1,
+    );
+    let Answer::NoSolution = first else {
+        return first;
+    };
+    let scaled_delay = scaled_column(&delay, m, x, r.delay_bound);
+    let two = Reduced {
+        nodes: n,
+        links: m,
+        x: x,
+        bound: r.cost_bound,
+    };
+    attempt(
+        work,
+        path,
+        links,
+        usable,
+        &delay,
+        &cost,
+        &cost,
+        &scaled_delay,
+        two,
+        s,
+        t,
+        2,
+    )
+}

@@ -1,0 +1,143 @@
+// The table d[v, k] in work memory: cell v * (x + 1) + k has its number at the word twice its place, and the link
+// by which v was reached at the next word.
+ghost use mathlib.Core.Path.{_≡_};
+ghost use mathlib.Core.Bool.{Bool, false};
+ghost use Prim.Native.Nat.{_+_, _*_, _≤_, _<_};
+ghost use lib.ListN.{length};
+ghost use Rattle.network.specs.Words.{netOf};
+ghost use Rattle.ebf.specs.Table.{cell, cells, filled, improved, relaxed, offered};
+ghost use Rattle.route.specs.Solver.{Sound, problemOf, Same};
+use crate::Reduced;
+use network::link;
+
+// The cell of d[v, k].
+pub fn cell(x: usize, v: usize, k: usize) -> usize
+    requires { ⌜ v < 32 ⌝ }
+    requires { ⌜ x ≤ 248 ⌝ }
+    requires { ⌜ k ≤ x ⌝ }
+    ensures is { λ r. ⌜ r ≡ cell x v k ⌝ }
+    ensures below { λ r. ⌜ r < 7968 ⌝ }
+{
+    v * (x + 1) + k
+}
+
+// How many cells the table has.
+pub fn cells(n: usize, x: usize) -> usize
+    requires { ⌜ n ≤ 32 ⌝ }
+    requires { ⌜ x ≤ 248 ⌝ }
+    ensures is { λ r. ⌜ r ≡ cells n x ⌝ }
+    ensures below { λ r. ⌜ r ≤ 7968 ⌝ }
+{
+    n * (x + 1)
+}
+
+// The `n` cells from `a` on get the number `d`.
+fn fill(work: &mut [u32], a: usize, n: usize, d: u32)
+    requires { ⌜ (a + n ≤ 8000) × (16384 ≤ length (now work)) ⌝ }
+    ensures { λ _. ⌜ now (work .exit) ≡ filled a n d (now (work .entry)) ⌝ }
+{
+    for j in 0..n {
+        work[2 * (a + j)] = d;
+    }
+}
+
+// Lines 1 to 5, with bound + 1 for ∞. No link word is cleared for line 3: a link is read only where the number
+// is within the bound, and was written with it.
+pub fn initialise(work: &mut [u32], p: Reduced, s: usize)
+    requires { ⌜ (p .nodes ≤ 32) × (p .x ≤ 248) × (p .bound ≤ 31000000) ⌝ }
+    requires { ⌜ 16384 ≤ length (now work) ⌝ }
+    requires { ⌜ s < 32 ⌝ }
+    ensures { λ _. ⌜ now (work .exit) ≡ filled (cell (p .x) s 0) (p .x + 1) 0 (filled 0 (cells (p .nodes) (p .x)) (p .bound + 1) (now (work .entry))) ⌝ }
+{
+    fill(work, 0, cells(p.nodes, p.x), p.bound + 1);
+    fill(work, cell(p.x, s, 0), p.x + 1, 0);
+}
+
+// Lines 8 to 10: link `i` of kept weight `weight` leads from cell `a` to cell `b`. Gives true where the table
+// changed, else what it was told of the changes before.
+fn improve(
+    work: &mut [u32],
+    a: usize,
+    b: usize,
+    weight: u32,
+    bound: u32,
+    i: usize,
+    changed: bool,
+) -> bool
+    requires { ⌜ 16384 ≤ length (now work) ⌝ }
+    requires { ⌜ (a < 7968) × (b < 7968) × (i < 256) ⌝ }
+    requires { ⌜ (weight ≤ 1000000) × (bound ≤ 31000000) ⌝ }
+    ensures is { λ _. ⌜ now (work .exit) ≡ improved a b weight bound i (now (work .entry)) ⌝ }
+    ensures told { λ r. ⌜ (r ≡ false → Same changed (now (work .entry)) (now (work .exit))) ⌝ }
+{
+    let near = work[2 * a];
+    if bound < near {
+        return changed;
+    }
+    let d = near + weight;
+    if d < work[2 * b] {
+        work[2 * b] = d;
+        work[2 * b + 1] = i as u32;
+        return true;
+    }
+    changed
+}
+
+// Lines 6 to 10: link `i` is tried from its tail at `k`.
+fn relax(
+    work: &mut [u32],
+    links: &[u32],
+    usable: &[u32],
+    kept: &[u32; 256],
+    scaled: &[u32; 256],
+    p: Reduced,
+    k: usize,
+    i: usize,
+    changed: bool,
+) -> bool
+    requires { ⌜ Sound p (now links) (now usable) (now kept) ⌝ }
+    requires { ⌜ 16384 ≤ length (now work) ⌝ }
+    requires { ⌜ (k ≤ p .x) × (i < p .links) ⌝ }
+    ensures is { λ _. ⌜ now (work .exit) ≡ relaxed (netOf (p .nodes) (p .links) (now (links .entry)) (now (usable .entry))) (problemOf p (now (kept .entry)) (now (scaled .entry))) k i (now (work .entry)) ⌝ }
+    ensures told { λ r. ⌜ (r ≡ false → Same changed (now (work .entry)) (now (work .exit))) ⌝ }
+{
+    let to = k + link::wide(scaled[i]);
+    if p.x < to {
+        return changed;
+    }
+    let tail = link::wide(link::word(links, i, link::FROM));
+    let head = link::wide(link::word(links, i, link::TO));
+    improve(
+        work,
+        cell(p.x, tail, k),
+        cell(p.x, head, to),
+        kept[i],
+        p.bound,
+        i,
+        changed,
+    )
+}
+
+// Line 24, for a usable link.
+pub fn offer(
+    work: &mut [u32],
+    links: &[u32],
+    usable: &[u32],
+    kept: &[u32; 256],
+    scaled: &[u32; 256],
+    p: Reduced,
+    k: usize,
+    i: usize,
+    changed: bool,
+) -> bool
+    requires { ⌜ Sound p (now links) (now usable) (now kept) ⌝ }
+    requires { ⌜ 16384 ≤ length (now work) ⌝ }
+    requires { ⌜ (k ≤ p .x) × (i < p .links) ⌝ }
+    ensures is { λ _. ⌜ now (work .exit) ≡ offered (netOf (p .nodes) (p .links) (now (links .entry)) (now (usable .entry))) (problemOf p (now (kept .entry)) (now (scaled .entry))) k i (now (work .entry)) ⌝ }
+    ensures told { λ r. ⌜ (r ≡ false → Same changed (now (work .entry)) (now (work .exit))) ⌝ }
+{
+    if usable[i] != 1 {
+        return changed;
+    }
+    relax(work, links, usable, kept, scaled, p, k, i, changed)
+}
