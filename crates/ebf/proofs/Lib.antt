@@ -3,3 +3,8 @@ pub mod Cells
 pub mod Relaxed
 pub mod Sound
 pub mod Complete
+pub mod Distance
+pub mod Trace
+pub mod Memory
+pub mod Solved
+pub mod Search

@@ -2,7 +2,7 @@
 -- that is overqualified in the scaled weight is a solution, because rounding adds less than one for each link.
 -- Assumes nothing.
 use mathlib.Core.Path.{_≡_, refl, subst}
-use mathlib.Core.Logic.{_⊎_, ⊎-elim}
+use mathlib.Core.Logic.{⊎-elim}
 use mathlib.Core.List.{List, [], _∷_}
 use Prim.Native.Nat.{ℕ, _*_, _≤_, _<_}
 use native.Mathlib.Nat.{mul-le-mul}
@@ -12,7 +12,7 @@ use Rattle.network.specs.declared.Request.{Request}
 use Rattle.network.specs.Net.{Net, IsPath, sum}
 use Rattle.network.specs.Scale.{scaled, Overqualified}
 use Rattle.network.specs.Problem.{Problem, Solves, Distance}
-use Rattle.network.specs.Reduce.{delayBound, costBound, problemOne, problemTwo, Outcome, no-path, no-solution, granted, Found, none, unsolved, by-one, by-two}
+use Rattle.network.specs.Reduce.{delayBound, costBound, problemOne, problemTwo, WithinBounds, Enough, Outcome, no-path, no-solution, granted, Found, none, unsolved, by-one, by-two}
 use Rattle.network.proofs.Scaling.{theorem-one, theorem-two}
 
 -- ---- the distance
@@ -44,10 +44,6 @@ module _ (g : Net) (kept : ℕ → ℕ) (bound : ℕ) (weight : ℕ → ℕ) (li
   overqualified-solves path low over = record { path = path; within = low; reduced = theorem-two x limit pos weight p over }
 
 -- ---- the problems of a request
-pub record WithinBounds (g : Net) (r : Request) (p : List ℕ) : Type 0 where
-  pub delay : sum (g .delay) p ≤ delayBound r
-  pub cost : sum (g .cost) p ≤ costBound r
-
 module _ (g : Net) (r : Request) (x : ℕ) (p : List ℕ) where
   pub solution-one-within : 0 < x → 0 < costBound r → Solves g (problemOne g r x) (r .source) (r .target) p → WithinBounds g r p
   unfolding problemOne
@@ -81,12 +77,6 @@ abbrev Bounded : Net → Request → Outcome → Type 0
 Bounded g r no-path = Unit
 Bounded g r no-solution = Unit
 Bounded g r (granted k p) = WithinBounds g r p
-
--- one weight within its bound and the other overqualified, at distance k
-abbrev pub Enough : Net → Request → ℕ → List ℕ → Type 0
-Enough g r k p =
-    ((sum (g .delay) p ≤ delayBound r) × Overqualified (r .coefficient * k) (costBound r) (length p) (sum (g .cost) p))
-    ⊎ ((sum (g .cost) p ≤ costBound r) × Overqualified (r .coefficient * k) (delayBound r) (length p) (sum (g .delay) p))
 
 module _ (g : Net) (r : Request) (positive : 0 < r .coefficient) (D : 0 < delayBound r) (C : 0 < costBound r)
     (differ : r .source ≡ r .target → ⊥) where

@@ -1,10 +1,12 @@
 -- The two problems that a request is reduced to, and what a search may find.
 -- Assumes nothing.
-use Prim.Native.Nat.{ℕ, _*_}
+use Prim.Native.Nat.{ℕ, _*_, _≤_}
+use mathlib.Core.Logic.{_⊎_}
 use mathlib.Core.List.{List}
+use lib.ListN.{length}
 use Rattle.network.specs.declared.Request.{Request}
-use Rattle.network.specs.Net.{Net}
-use Rattle.network.specs.Scale.{scaled}
+use Rattle.network.specs.Net.{Net, sum}
+use Rattle.network.specs.Scale.{scaled, Overqualified}
 use Rattle.network.specs.Problem.{Problem, Best, NoPath, NoSolution, Distance}
 
 -- document 01's D and C
@@ -23,6 +25,17 @@ problemOne g r x =
 unfoldable pub problemTwo : Net → Request → ℕ → Problem
 problemTwo g r x =
     record { kept = g .cost; bound = costBound r; scaledBy = λ i. scaled x (delayBound r) (g .delay i); x = x }
+
+-- both original bounds
+pub record WithinBounds (g : Net) (r : Request) (p : List ℕ) : Type 0 where
+  pub delay : sum (g .delay) p ≤ delayBound r
+  pub cost : sum (g .cost) p ≤ costBound r
+
+-- the paper's heuristic conditions one and two at distance k: one weight within its bound, the other overqualified
+abbrev pub Enough : Net → Request → ℕ → List ℕ → Type 0
+Enough g r k p =
+    ((sum (g .delay) p ≤ delayBound r) × Overqualified (r .coefficient * k) (costBound r) (length p) (sum (g .cost) p))
+    ⊎ ((sum (g .cost) p ≤ costBound r) × Overqualified (r .coefficient * k) (delayBound r) (length p) (sum (g .delay) p))
 
 -- a search ends with no path, with no solution, or with the path that a problem, 1 or 2, granted
 pub data Outcome : Type 0 where

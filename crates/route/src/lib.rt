@@ -16,10 +16,10 @@ pub mod weights;
 
 use crate::attempt::attempt;
 use crate::distance::distance;
-use network::Request;
-use network::link;
 use crate::weights::column;
 use crate::weights::scaled_column;
+use network::Request;
+use network::link;
 
 // The numbers of one reduced problem: how many nodes and links, the bound x of the scaled weight and the bound
 // of the kept weight.

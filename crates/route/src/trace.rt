@@ -9,11 +9,11 @@ ghost use Rattle.ebf.specs.Table.{cell, linkAt};
 ghost use Rattle.ebf.specs.Trace.{trailBack, stepBack, traced};
 ghost use Rattle.route.specs.Solver.{Sound, problemOf, OnTable};
 use crate::Reduced;
+use crate::table::cell;
+use crate::table::cells;
 use ebf::Trail;
 use network::link;
 use network::node_set;
-use crate::table::cell;
-use crate::table::cells;
 
 // The link kept where the trail stands.
 fn kept_link(work: &[u32], p: Reduced, w: Trail) -> usize

@@ -1,0 +1,40 @@
+-- The search finds what it must: the distance says whether there is a path, and each problem is answered by a best
+-- solution, or by none where there is none.
+-- Assumes nothing.
+use mathlib.Core.Path.{_≡_}
+use mathlib.Core.List.{List}
+use mathlib.Core.Option.{Option, none, some}
+use Prim.Native.Nat.{ℕ, _≤_, _<_}
+use lib.Dec.{ltb}
+use borrow.Author.Tests.{ltb-true, ltb-false}
+use Rattle.network.specs.declared.Request.{Request}
+use Rattle.network.specs.Net.{Net, Ends}
+use Rattle.network.specs.Problem.{Distance}
+use Rattle.network.specs.Reduce.{no-path, one, two, Found}
+use Rattle.network.proofs.Tests.{by-test}
+use Rattle.ebf.specs.Distance.{distance}
+use Rattle.ebf.specs.Solve.{solve}
+use Rattle.ebf.specs.Search.{outcomeOf, orElse, tried, search}
+use Rattle.ebf.proofs.Distance.{distance-found, distance-none}
+use Rattle.ebf.proofs.Solved.{Solved, solved}
+
+module _ (g : Net) (r : Request) where
+  -- the outcome by what the two problems answer
+  by-both : (k : ℕ) → Distance g (r .source) (r .target) k → (a b : Option (List ℕ)) → Solved g (one g r k) (r .source) (r .target) a
+      → Solved g (two g r k) (r .source) (r .target) b
+      → Found g r (orElse (outcomeOf 1 a) (outcomeOf 2 b))
+  by-both k far (some p) b best more = Found.by-one k p far best
+  by-both k far none (some p) nothing best = Found.by-two k p far nothing best
+  by-both k far none none nothing more = Found.unsolved k far nothing more
+
+  pub search-finds : Ends g → g .nodes ≤ 32 → r .source < g .nodes → r .target < g .nodes → (r .source ≡ r .target → ⊥) → Found g r (search g r)
+  unfolding search tried
+  search-finds ends few s-low t-low apart =
+      let k : ℕ = distance g (r .source) (r .target) in
+      by-test (ltb k (g .nodes)) (tried g r k) no-path (Found g r)
+      (λ e.
+      by-both k (distance-found g ends few (r .source) (r .target) s-low apart (ltb-true _ _ e))
+      (solve g (one g r k) (r .source) (r .target)) (solve g (two g r k) (r .source) (r .target))
+      (solved g (one g r k) ends few (r .source) (r .target) s-low t-low apart)
+      (solved g (two g r k) ends few (r .source) (r .target) s-low t-low apart))
+      (λ e. Found.none (distance-none g ends few (r .source) (r .target) s-low apart (ltb-false _ _ e)))
