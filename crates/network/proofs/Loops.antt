@@ -3,7 +3,7 @@
 use mathlib.Core.Path.{_≡_, refl, sym, _∙_, ap, subst}
 use mathlib.Core.Bool.{Bool, true, false, cond, false≢true}
 use mathlib.Core.Logic.{⊎-elim}
-use Prim.Native.Nat.{ℕ, zero, suc, _+_, _<_, _≤_}
+use Prim.Native.Nat.{ℕ, zero, suc, _+_, _-_, _<_, _≤_}
 use native.Mathlib.Nat.{zero-add, suc-add, eq-or-lt-of-le, le-refl}
 use native.Mathlib.Numerals.{add-one}
 use native.Mathlib.Omega.{arith}
@@ -58,6 +58,12 @@ pub iter-first : {A : Type 0} (g : A → A) (n : ℕ) (a : A) → iter (λ _. g)
 unfolding iter
 iter-first g zero a = refl
 iter-first g (suc n) a = ap g (iter-first g n a)
+
+-- a turn that changed nothing: the turns that are left may be left out
+pub iter-settled : {A : Type 0} (g : A → A) (n m : ℕ) (a : A) {b d : A} → b ≡ iter (λ _. g) n a → n ≤ m → d ≡ g b → b ≡ d
+    → d ≡ iter (λ _. g) m a
+iter-settled g n m a {b} h low turn same =
+    sym same ∙ iter-done (λ _. g) (m - n + n) m a (iter-stays (λ _. g) n (m - n) a b h (λ _. sym turn ∙ sym same)) (omega arith)
 
 -- ---- the first number at which a test passes
 module _ (f : ℕ → Bool) where

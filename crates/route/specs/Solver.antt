@@ -7,6 +7,8 @@ use mathlib.Core.List.{List}
 use lib.ListN.{getD}
 use Rattle.network.specs.Problem.{Problem}
 use Rattle.ebf.specs.declared.Trail.{Trail}
+use Rattle.network.specs.Words.{field}
+use Rattle.route.specs.declared.Hop.{Hop}
 use Rattle.route.specs.declared.Reduced.{Reduced}
 use Rattle.route.specs.Ready.{Links}
 
@@ -20,6 +22,16 @@ pub record Sound (p : Reduced) (links usable kept : List ℕ) : Type 0 where
   pub x : p .x ≤ 248
   pub bound : p .bound ≤ 31000000
   pub weight : (i : ℕ) → i < p .links → getD kept i 0 ≤ 1000000
+
+-- h is link i as a relaxation uses it
+pub record Hopped (links kept scaled : List ℕ) (i : ℕ) (h : Hop) : Type 0 where
+  pub tail : h .tail ≡ field links i 0
+  pub head : h .head ≡ field links i 1
+  pub weight : h .weight ≡ getD kept i 0
+  pub step : h .step ≡ getD scaled i 0
+  pub tail-low : h .tail < 32
+  pub head-low : h .head < 32
+  pub light : h .weight ≤ 1000000
 
 -- what a function that says false tells: the words are as they were, and it was told of no change before
 pub record Same (changed : Bool) (before after : List ℕ) : Type 0 where

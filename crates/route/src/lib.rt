@@ -30,6 +30,14 @@ pub struct Reduced {
     pub bound: u32,
 }
 
+// A link as a relaxation uses it: its ends, its kept weight and its scaled weight.
+pub struct Hop {
+    pub tail: usize,
+    pub head: usize,
+    pub weight: u32,
+    pub step: usize,
+}
+
 // How far a path has come: the node, and the links, the delay and the cost so far.
 pub struct Leg {
     pub node: usize,

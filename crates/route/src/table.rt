@@ -6,7 +6,8 @@ ghost use Prim.Native.Nat.{_+_, _*_, _≤_, _<_};
 ghost use lib.ListN.{length};
 ghost use Rattle.network.specs.Words.{netOf};
 ghost use Rattle.ebf.specs.Table.{cell, cells, filled, improved, relaxed, offered};
-ghost use Rattle.route.specs.Solver.{Sound, problemOf, Same};
+ghost use Rattle.route.specs.Solver.{Sound, problemOf, Hopped, Same};
+use crate::Hop;
 use crate::Reduced;
 use network::link;
 
@@ -83,6 +84,27 @@ fn improve(
     changed
 }
 
+// What a relaxation reads of link `i`.
+fn read_hop(
+    links: &[u32],
+    usable: &[u32],
+    kept: &[u32; 256],
+    scaled: &[u32; 256],
+    p: Reduced,
+    i: usize,
+) -> Hop
+    requires { ⌜ Sound p (now links) (now usable) (now kept) ⌝ }
+    requires { ⌜ i < p .links ⌝ }
+    ensures { λ h. ⌜ Hopped (now (links .entry)) (now (kept .entry)) (now (scaled .entry)) i h ⌝ }
+{
+    Hop {
+        tail: link::wide(link::word(links, i, link::FROM)),
+        head: link::wide(link::word(links, i, link::TO)),
+        weight: kept[i],
+        step: link::wide(scaled[i]),
+    }
+}
+
 // Lines 6 to 10: link `i` is tried from its tail at `k`.
 fn relax(
     work: &mut [u32],
@@ -101,17 +123,16 @@ fn relax(
     ensures is { λ _. ⌜ now (work .exit) ≡ relaxed (netOf (p .nodes) (p .links) (now (links .entry)) (now (usable .entry))) (problemOf p (now (kept .entry)) (now (scaled .entry))) k i (now (work .entry)) ⌝ }
     ensures told { λ r. ⌜ (r ≡ false → Same changed (now (work .entry)) (now (work .exit))) ⌝ }
 {
-    let to = k + link::wide(scaled[i]);
-    if p.x < to {
+    let h = read_hop(links, usable, kept, scaled, p, i);
+    if p.x - k < h.step {
         return changed;
     }
-    let tail = link::wide(link::word(links, i, link::FROM));
-    let head = link::wide(link::word(links, i, link::TO));
+    let to = k + h.step;
     improve(
         work,
-        cell(p.x, tail, k),
-        cell(p.x, head, to),
-        kept[i],
+        cell(p.x, h.tail, k),
+        cell(p.x, h.head, to),
+        h.weight,
         p.bound,
         i,
         changed,

@@ -1,0 +1,68 @@
+-- `route::rounds::relax_links` meets its contract: the table is `column` as far as the links were tried.
+-- Assumes nothing.
+use mathlib.Core.Path.{_≡_, refl, _∙_}
+use mathlib.Core.Bool.{false}
+use Prim.Native.Nat.{_-_, _≤_}
+use native.Mathlib.Omega.{arith}
+use lib.ListN.{length}
+use Rattle.network.specs.Loops.{iter}
+use Rattle.network.specs.Words.{netOf}
+use Rattle.network.proofs.Loops.{iter-none, iter-more, iter-done}
+use Rattle.ebf.specs.Table.{offered, column}
+use Rattle.route.specs.Solver.{problemOf, Same}
+use Rattle.route.proofs.Steps.{told-on, told-chain}
+use borrow.Author.Needs.{needs}
+use Rattle.route.proofs.rounds.relax_links.Statement.{statement}
+use Rattle.route.proofs.rounds.relax_links.Tie as tie
+
+abbrev Inv-loop : tie.InvT-loop
+Inv-loop work₀ links usable kept scaled p k changed any₀ i₀ i-end work any i = 
+    (work ≡ iter (offered (netOf (p .nodes) (p .links) links usable) (problemOf p kept scaled) k) i work₀)
+    × (length work ≡ length work₀) × (i ≤ i-end) × (any ≡ false → Same changed work₀ work)
+
+abbrev μ-loop : tie.MeasureT-loop
+μ-loop work₀ links usable kept scaled p k changed any₀ i₀ i-end work any i = i-end - i
+
+loop-holds : tie.Need-loop-holds Inv-loop μ-loop
+loop-holds c = (iter-none _ _, refl, search needs, told-on _ _)
+
+offer-requires : tie.Need-offer-requires Inv-loop μ-loop
+offer-requires c κs = search needs
+
+add-i : tie.Need-add-i Inv-loop μ-loop
+add-i c = search needs
+
+loop-less : tie.Need-loop-less Inv-loop μ-loop
+loop-less c = search needs
+
+loop-again : tie.Need-loop-again Inv-loop μ-loop
+loop-again c =
+    let i = c .before .before .before .before .before .loop .inv in
+    let o = c .before .before .offer in
+    (
+      iter-more _ _ _ (i .0) (o .ensures .0),
+      o .kept .0 ∙ i .1,
+      search needs,
+      λ e. let same = o .ensures .1 e in told-chain (i .3 (same .told)) same,
+    )
+
+same-length : tie.Need-same-length Inv-loop μ-loop
+same-length c = search needs
+
+returns : tie.Need-returns Inv-loop μ-loop
+unfolding column netOf
+returns c = (iter-done _ _ _ _ (c .before .loop .inv .0) (omega arith), c .before .loop .inv .3)
+
+pub relax-links-spec : {M : Type 1} → statement M
+relax-links-spec =
+    tie.close
+    (tie.spec
+    Inv-loop
+    μ-loop
+    loop-holds
+    offer-requires
+    add-i
+    loop-less
+    loop-again
+    same-length
+    returns)

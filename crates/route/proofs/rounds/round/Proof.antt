@@ -1,0 +1,71 @@
+-- `route::rounds::round` meets its contract: the table is `round` as far as k has risen.
+-- Assumes nothing.
+use mathlib.Core.Path.{_≡_, refl, _∙_}
+use mathlib.Core.Bool.{false}
+use Prim.Native.Nat.{_-_, _≤_}
+use native.Mathlib.Omega.{arith}
+use lib.ListN.{length}
+use Rattle.network.specs.Loops.{iter}
+use Rattle.network.specs.Words.{netOf}
+use Rattle.network.proofs.Loops.{iter-none, iter-more, iter-done}
+use Rattle.ebf.specs.Table.{column, round}
+use Rattle.route.specs.Solver.{problemOf, Same}
+use borrow.Author.Needs.{needs}
+use Rattle.route.proofs.rounds.round.Statement.{statement}
+use Rattle.route.proofs.rounds.round.Tie as tie
+
+abbrev Inv-loop : tie.InvT-loop
+Inv-loop work₀ links usable kept scaled p any₀ k₀ k-end work any k = 
+    (work ≡ iter (column (netOf (p .nodes) (p .links) links usable) (problemOf p kept scaled)) k work₀)
+    × (length work ≡ length work₀) × (k ≤ k-end) × (any ≡ false → work₀ ≡ work)
+
+abbrev μ-loop : tie.MeasureT-loop
+μ-loop work₀ links usable kept scaled p any₀ k₀ k-end work any k = k-end - k
+
+add-k-end : tie.Need-add-k-end Inv-loop μ-loop
+add-k-end c = search needs
+
+loop-holds : tie.Need-loop-holds Inv-loop μ-loop
+loop-holds c = (iter-none _ _, refl, search needs, λ e. refl)
+
+relax-links-requires : tie.Need-relax-links-requires Inv-loop μ-loop
+relax-links-requires c κs = search needs
+
+add-k : tie.Need-add-k Inv-loop μ-loop
+add-k c = search needs
+
+loop-less : tie.Need-loop-less Inv-loop μ-loop
+loop-less c = search needs
+
+loop-again : tie.Need-loop-again Inv-loop μ-loop
+loop-again c = 
+    let i = c .before .before .before .before .before .loop .inv in
+    let o = c .before .before .relax-links in
+    (
+      iter-more _ _ _ (i .0) (o .ensures .0),
+      o .kept .0 ∙ i .1,
+      search needs,
+      λ e. let same = o .ensures .1 e in i .3 (same .told) ∙ same .words,
+    )
+
+same-length : tie.Need-same-length Inv-loop μ-loop
+same-length c = search needs
+
+returns : tie.Need-returns Inv-loop μ-loop
+unfolding round problemOf
+returns c = (iter-done _ _ _ _ (c .before .loop .inv .0) (omega arith), c .before .loop .inv .3)
+
+pub round-spec : {M : Type 1} → statement M
+round-spec =
+    tie.close
+    (tie.spec
+    Inv-loop
+    μ-loop
+    add-k-end
+    loop-holds
+    relax-links-requires
+    add-k
+    loop-less
+    loop-again
+    same-length
+    returns)

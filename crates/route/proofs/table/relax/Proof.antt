@@ -1,0 +1,55 @@
+-- `route::table::relax` meets its contract: over x nothing is offered, within x the two cells are compared.
+-- Assumes nothing.
+use native.Mathlib.Omega.{arith}
+use Rattle.route.proofs.Steps.{hop-over, hop-within, told-on}
+use borrow.Author.Needs.{needs}
+use Rattle.route.proofs.table.relax.Statement.{statement}
+use Rattle.route.proofs.table.relax.Tie as tie
+
+read-hop-requires : tie.Need-read-hop-requires
+read-hop-requires c κs = search needs
+
+sub-if1 : tie.Need-sub-if1
+sub-if1 c = search needs
+
+returns : tie.Need-returns
+returns c = (hop-over _ _ _ _ _ _ _ _ _ (c .before .before .before .read-hop .ensures) (omega arith) (omega arith), told-on _ _)
+
+add-to : tie.Need-add-to
+add-to c = search needs
+
+cell-requires : tie.Need-cell-requires
+cell-requires c κs = search needs
+
+cell-requires-2 : tie.Need-cell-requires-2
+cell-requires-2 c κs = search needs
+
+improve-requires : tie.Need-improve-requires
+improve-requires c κs = search needs
+
+same-length : tie.Need-same-length
+same-length c = search needs
+
+returns-2 : tie.Need-returns-2
+returns-2 c = 
+    let r = c .before .before .before .before .before .before .before .before .before .before .read-hop .ensures in
+    let low = c .before .before .before .before .before .before .before .before .before .before .before .before .before .before .pre .1 .1 .0 in
+    let done = c .before .before .improve .ensures in
+    (
+      hop-within _ _ _ _ _ _ _ _ _ r low (c .before .before .before .before .before .before .before .if1 .left) (c .before .before .before .before .cell .ensures .0) (c .before .before .before .cell2 .ensures .0) (done .0),
+      done .1,
+    )
+
+pub relax-spec : {M : Type 1} → statement M
+relax-spec =
+    tie.close
+    (tie.spec
+    read-hop-requires
+    sub-if1
+    returns
+    add-to
+    cell-requires
+    cell-requires-2
+    improve-requires
+    same-length
+    returns-2)
