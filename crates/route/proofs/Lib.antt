@@ -1,3 +1,5 @@
+pub mod Columns
 pub mod Steps
 pub mod Turn
 pub mod Forward
+pub mod Outcomes

@@ -1,38 +1,40 @@
+-- `route::distance::spread` meets its contract: the loop is the model's, turn by turn.
+-- Assumes nothing.
+use mathlib.Core.Path.{_≡_}
+use Prim.Native.Nat.{_≤_, _-_}
+use native.Mathlib.Omega.{arith}
+use borrow.Author.Needs.{needs}
+use Rattle.network.specs.Words.{netOf}
+use Rattle.network.specs.Loops.{iter}
+use Rattle.network.proofs.Loops.{iter-none, iter-more, iter-done}
+use Rattle.ebf.specs.Distance.{spreadLink, spread}
 use Rattle.route.proofs.distance.spread.Statement.{statement}
 use Rattle.route.proofs.distance.spread.Tie as tie
-use Rattle.route.proofs.distance.spread.Reads as reads
-use Rattle.route.proofs.distance.spread.Lts as lts
-use Rattle.route.proofs.distance.spread_link.Reads as spread-link-reads
 
 abbrev Inv-loop : tie.InvT-loop
-Inv-loop n m links usable set more₀ i₀ more i = ?
+Inv-loop n m links usable set more₀ i₀ more i = (more ≡ iter (spreadLink (netOf n m links usable) set) i set) × (i ≤ m)
 
 abbrev μ-loop : tie.MeasureT-loop
-μ-loop n m links usable set more₀ i₀ more i = ?
+μ-loop n m links usable set more₀ i₀ more i = m - i
 
--- src/distance.rt:42:5
 loop-holds : tie.Need-loop-holds Inv-loop μ-loop
-loop-holds c = ?
+loop-holds c = (iter-none _ _, search needs)
 
--- src/distance.rt:43:9
 spread-link-requires : tie.Need-spread-link-requires Inv-loop μ-loop
-spread-link-requires c κs = ?
+spread-link-requires c κs = search needs
 
--- src/distance.rt:42:9
 add-i : tie.Need-add-i Inv-loop μ-loop
-add-i c = ?
+add-i c = search needs
 
--- src/distance.rt:42:5
 loop-less : tie.Need-loop-less Inv-loop μ-loop
-loop-less c = ?
+loop-less c = search needs
 
--- src/distance.rt:42:5
 loop-again : tie.Need-loop-again Inv-loop μ-loop
-loop-again c = ?
+loop-again c = (iter-more _ _ _ (c .before .before .loop .inv .0) (c .spread-link .ensures), search needs)
 
--- src/distance.rt:37:1
 returns : tie.Need-returns Inv-loop μ-loop
-returns c = ?
+unfolding spread netOf
+returns c = iter-done _ _ _ _ (c .before .loop .inv .0) (omega arith)
 
 pub spread-spec : {M : Type 1} → statement M
 spread-spec =

@@ -1,46 +1,51 @@
+-- `route::weights::column` meets its contract: the loop fills the column entry by entry, and past the table's end both sides are 0.
+-- Assumes nothing.
+use mathlib.Core.Path.{_≡_}
+use mathlib.Core.List.{List}
+use Prim.Native.Nat.{ℕ, _-_, _*_, _≤_}
+use native.Mathlib.Omega.{arith}
+use borrow.Author.Needs.{needs}
+use lib.ListN.{length, List·getD-eq-default}
+use Rattle.network.specs.Words.{field}
+use Rattle.route.proofs.Columns.{Filled, filled-none, filled-more, filled-done}
 use Rattle.route.proofs.weights.column.Statement.{statement}
 use Rattle.route.proofs.weights.column.Tie as tie
-use Rattle.route.proofs.weights.column.Reads as reads
-use Rattle.route.proofs.weights.column.Lts as lts
-use Rattle.network.proofs.link.word.Reads as word-reads
+
+-- no link stands past the table's end
+past : (links : List ℕ) (m i j : ℕ) → length links ≡ 5 * m → m ≤ i → field links i j ≡ 0
+past links m i j whole high = List·getD-eq-default links 0 (omega arith)
 
 abbrev Inv-loop : tie.InvT-loop
-Inv-loop links m j words₀ i₀ words i = ?
+Inv-loop links m j words₀ i₀ words i = Filled (λ k. field links k j) i words × (i ≤ m)
 
 abbrev μ-loop : tie.MeasureT-loop
-μ-loop links m j words₀ i₀ words i = ?
+μ-loop links m j words₀ i₀ words i = m - i
 
--- src/weights.rt:18:5
 loop-holds : tie.Need-loop-holds Inv-loop μ-loop
-loop-holds c = ?
+loop-holds c = (filled-none _, search needs)
 
--- src/weights.rt:19:20
 word-requires : tie.Need-word-requires Inv-loop μ-loop
-word-requires c κs = ?
+word-requires c κs = search needs
 
--- src/weights.rt:19:9
 mul-words : tie.Need-mul-words Inv-loop μ-loop
-mul-words c = ?
+mul-words c = search needs
 
--- src/weights.rt:19:9
 array-write-words : tie.Need-array-write-words Inv-loop μ-loop
-array-write-words c = ?
+array-write-words c = search needs
 
--- src/weights.rt:18:9
 add-i : tie.Need-add-i Inv-loop μ-loop
-add-i c = ?
+add-i c = search needs
 
--- src/weights.rt:18:5
 loop-less : tie.Need-loop-less Inv-loop μ-loop
-loop-less c = ?
+loop-less c = search needs
 
--- src/weights.rt:18:5
 loop-again : tie.Need-loop-again Inv-loop μ-loop
-loop-again c = ?
+loop-again c = (filled-more _ _ _ _ (c .before .before .loop .inv .0) (omega arith) (c .word .ensures), search needs)
 
--- src/weights.rt:11:1
 returns : tie.Need-returns Inv-loop μ-loop
-returns c = ?
+returns c =
+    let start = c .before .before .before in
+    filled-done _ _ _ (c .before .loop .inv .0) (λ k l. past (start .args .links .now) _ k (start .args .j) (start .pre .1 .1) (omega arith))
 
 pub column-spec : {M : Type 1} → statement M
 column-spec =

@@ -1,58 +1,59 @@
+-- `route::weights::scaled_column` meets its contract: the loop fills the column entry by entry, and a weight of 0 is scaled to 0.
+-- Assumes nothing.
+use mathlib.Core.Path.{_≡_}
+use Prim.Native.Nat.{ℕ, _-_, _≤_, _<_}
+use native.Mathlib.Nat.{zero-mul, zero-add, div-eq-of-lt}
+use native.Mathlib.Omega.{arith}
+use borrow.Author.Needs.{needs}
+use lib.ListN.{getD}
+use Rattle.network.specs.Scale.{scaled}
+use Rattle.route.proofs.Columns.{Filled, filled-none, filled-more, filled-done}
 use Rattle.route.proofs.weights.scaled_column.Statement.{statement}
 use Rattle.route.proofs.weights.scaled_column.Tie as tie
-use Rattle.route.proofs.weights.scaled_column.Reads as reads
-use Rattle.route.proofs.weights.scaled_column.Lts as lts
-use Rattle.network.proofs.scale.scale.Reads as scale-reads
+
+-- past the table's end
+scaled-none : (x bound weight : ℕ) → 0 < bound → weight ≡ 0 → scaled x bound weight ≡ 0
+unfolding scaled
+scaled-none x bound weight some none = rw (none, zero-mul, zero-add) (div-eq-of-lt (omega arith))
 
 abbrev Inv-loop : tie.InvT-loop
-Inv-loop weights m x bound words₀ i₀ words i = ?
+Inv-loop weights m x bound words₀ i₀ words i = Filled (λ k. scaled x bound (getD weights k 0)) i words × (i ≤ m)
 
 abbrev μ-loop : tie.MeasureT-loop
-μ-loop weights m x bound words₀ i₀ words i = ?
+μ-loop weights m x bound words₀ i₀ words i = m - i
 
--- src/weights.rt:32:5
 loop-holds : tie.Need-loop-holds Inv-loop μ-loop
-loop-holds c = ?
+loop-holds c = (filled-none _, search needs)
 
--- src/weights.rt:33:26
 mul-scale : tie.Need-mul-scale Inv-loop μ-loop
-mul-scale c = ?
+mul-scale c = search needs
 
--- src/weights.rt:33:26
 element-copy-out-scale : tie.Need-element-copy-out-scale Inv-loop μ-loop
-element-copy-out-scale c = ?
+element-copy-out-scale c = search needs
 
--- src/weights.rt:33:38
 cast-scale : tie.Need-cast-scale Inv-loop μ-loop
-cast-scale c = ?
+cast-scale c = search needs
 
--- src/weights.rt:33:20
 scale-requires : tie.Need-scale-requires Inv-loop μ-loop
-scale-requires c κs = ?
+scale-requires c κs = omega (arith, c .before .before .before .pre .1 .0 (c .before .before .loop .i))
 
--- src/weights.rt:33:9
 mul-words : tie.Need-mul-words Inv-loop μ-loop
-mul-words c = ?
+mul-words c = search needs
 
--- src/weights.rt:33:9
 array-write-words : tie.Need-array-write-words Inv-loop μ-loop
-array-write-words c = ?
+array-write-words c = search needs
 
--- src/weights.rt:32:9
 add-i : tie.Need-add-i Inv-loop μ-loop
-add-i c = ?
+add-i c = search needs
 
--- src/weights.rt:32:5
 loop-less : tie.Need-loop-less Inv-loop μ-loop
-loop-less c = ?
+loop-less c = search needs
 
--- src/weights.rt:32:5
 loop-again : tie.Need-loop-again Inv-loop μ-loop
-loop-again c = ?
+loop-again c = (filled-more _ _ _ _ (c .before .before .before .loop .inv .0) (omega arith) (c .scale .ensures), search needs)
 
--- src/weights.rt:25:1
 returns : tie.Need-returns Inv-loop μ-loop
-returns c = ?
+returns c = filled-done _ _ _ (c .before .loop .inv .0) (λ k l. scaled-none _ _ _ (omega arith) (c .before .before .pre .1 .1 k (omega arith)))
 
 pub scaled-column-spec : {M : Type 1} → statement M
 scaled-column-spec =
