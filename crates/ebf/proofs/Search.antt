@@ -4,7 +4,7 @@
 use mathlib.Core.Path.{_≡_}
 use mathlib.Core.List.{List}
 use mathlib.Core.Option.{Option, none, some}
-use Prim.Native.Nat.{ℕ, _≤_, _<_}
+use Prim.Native.Nat.{ℕ, _*_, _≤_, _<_}
 use lib.Dec.{ltb}
 use borrow.Author.Tests.{ltb-true, ltb-false}
 use Rattle.network.specs.declared.Request.{Request}
@@ -31,7 +31,7 @@ module _ (g : Net) (r : Request) where
   unfolding search tried
   search-finds ends few s-low t-low apart =
       let k : ℕ = distance g (r .source) (r .target) in
-      by-test (ltb k (g .nodes)) (tried g r k) no-path (Found g r)
+      by-test (ltb k (g .nodes)) (tried g r (r .coefficient * k)) no-path (Found g r)
       (λ e.
       by-both k (distance-found g ends few (r .source) (r .target) s-low apart (ltb-true _ _ e))
       (solve g (one g r k) (r .source) (r .target)) (solve g (two g r k) (r .source) (r .target))

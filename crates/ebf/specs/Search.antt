@@ -1,13 +1,13 @@
 -- The whole search: section 2.3 of the paper. A function of the network and the request alone.
 -- Assumes nothing.
-use Prim.Native.Nat.{ℕ}
+use Prim.Native.Nat.{ℕ, _*_}
 use mathlib.Core.Bool.{cond}
 use mathlib.Core.List.{List}
 use mathlib.Core.Option.{Option, none, some}
 use lib.Dec.{ltb}
 use Rattle.network.specs.Net.{Net}
 use Rattle.network.specs.declared.Request.{Request}
-use Rattle.network.specs.Reduce.{Outcome, no-path, no-solution, granted, one, two}
+use Rattle.network.specs.Reduce.{Outcome, no-path, no-solution, granted, problemOne, problemTwo}
 use Rattle.ebf.specs.Distance.{distance}
 use Rattle.ebf.specs.Solve.{solve}
 
@@ -22,14 +22,15 @@ orElse no-path b = no-path
 orElse no-solution b = b
 orElse (granted which p) b = granted which p
 
--- both problems, where the distance is k
+-- problem one, else problem two, at x
 unfoldable pub tried : Net → Request → ℕ → Outcome
-tried g r k =
-    let second : Outcome = outcomeOf 2 (solve g (two g r k) (r .source) (r .target)) in
-    orElse (outcomeOf 1 (solve g (one g r k) (r .source) (r .target))) second
+tried g r x =
+    let second : Outcome = outcomeOf 2 (solve g (problemTwo g r x) (r .source) (r .target)) in
+    orElse (outcomeOf 1 (solve g (problemOne g r x) (r .source) (r .target))) second
 
+-- x is the coefficient times the distance
 unfoldable pub search : Net → Request → Outcome
 search g r =
     let k : ℕ = distance g (r .source) (r .target) in
-    let found : Outcome = tried g r k in
+    let found : Outcome = tried g r (r .coefficient * k) in
     cond (ltb k (g .nodes)) found no-path

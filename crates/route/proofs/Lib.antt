@@ -3,3 +3,4 @@ pub mod Steps
 pub mod Turn
 pub mod Forward
 pub mod Outcomes
+pub mod Reductions

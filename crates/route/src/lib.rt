@@ -9,15 +9,14 @@ ghost use Rattle.route.specs.Ready.{Ready};
 pub mod attempt;
 pub mod distance;
 pub mod path;
+pub mod problems;
 pub mod rounds;
 pub mod table;
 pub mod trace;
 pub mod weights;
 
-use crate::attempt::attempt;
 use crate::distance::distance;
-use crate::weights::column;
-use crate::weights::scaled_column;
+use crate::problems::both_problems;
 use network::Request;
 use network::link;
 
@@ -86,51 +85,5 @@ pub fn search(
         return Answer::NoPath;
     }
     let x = link::wide(r.coefficient) * far;
-    let delay = column(links, m, link::DELAY);
-    let cost = column(links, m, link::COST);
-    let scaled_cost = scaled_column(&cost, m, x, r.cost_bound);
-    let one = Reduced {
-        nodes: n,
-        links: m,
-        x: x,
-        bound: r.delay_bound,
-    };
-    let first = attempt(
-        work,
-        path,
-        links,
-        usable,
-        &delay,
-        &cost,
-        &delay,
-        &scaled_cost,
-        one,
-        s,
-        t,
-        1,
-    );
-    let Answer::NoSolution = first else {
-        return first;
-    };
-    let scaled_delay = scaled_column(&delay, m, x, r.delay_bound);
-    let two = Reduced {
-        nodes: n,
-        links: m,
-        x: x,
-        bound: r.cost_bound,
-    };
-    attempt(
-        work,
-        path,
-        links,
-        usable,
-        &delay,
-        &cost,
-        &cost,
-        &scaled_delay,
-        two,
-        s,
-        t,
-        2,
-    )
+    both_problems(n, m, links, usable, work, path, r, x)
 }

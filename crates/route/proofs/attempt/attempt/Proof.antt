@@ -33,8 +33,7 @@ returns c =
     let start = c .before .before .before .before .before .before .before .before .before .before .before .before .before .before .before .before in
     let more = start .pre .1 .1 in
     let table = table-is _ _ _ _ _ _ _ (start .pre .0) (more .2) (more .3) _ (more .0) (c .before .before .before .before .before .before .before .before .before .before .initialise .ensures) (c .before .before .before .before .before .before .rounds .ensures) in
-    let far = rw (c .before .before .before .cell .ensures .0) at (c .if1 .taken) in
-    (
+    let far = rw (c .before .before .before .cell .ensures .0) at (c .if1 .taken) in (
       answers-none _ _ _ _ _ _ _ (start .pre .0) (more .2) (more .3) _ (more .0) table _ far,
       leaves-path _ _ _ _ _ _ _ (start .pre .0) (more .2) (more .3) _ (more .0) table _ _ far,
     )
@@ -64,8 +63,7 @@ returns-2 c =
     let table = table-is _ _ _ _ _ _ _ (start .pre .0) (more .2) (more .3) _ (more .0) (c .before .before .before .before .before .before .before .before .before .before .before .before .before .before .before .before .before .before .initialise .ensures) (c .before .before .before .before .before .before .before .before .before .before .before .before .before .before .rounds .ensures) in
     let near = rw (c .before .before .before .before .before .before .before .before .before .before .before .cell .ensures .0) at (c .before .before .before .before .before .before .before .before .if1 .left) in
     let pass = c .before .before .before .forward .ensures .0 in
-    let notes = c .before .before .before .before .before .before .trace .ensures in
-    (
+    let notes = c .before .before .before .before .before .before .trace .ensures in (
       answers-path _ _ _ _ _ _ _ (start .pre .0) (more .2) (more .3) _ (more .0) table near notes _ pass _,
       writes-path _ _ _ _ _ _ _ (start .pre .0) (more .2) (more .3) _ (more .0) table near notes _ pass _ (more .1),
     )

@@ -16,7 +16,7 @@ use Rattle.route.proofs.rounds.relax_links.Statement.{statement}
 use Rattle.route.proofs.rounds.relax_links.Tie as tie
 
 abbrev Inv-loop : tie.InvT-loop
-Inv-loop work₀ links usable kept scaled p k changed any₀ i₀ i-end work any i = 
+Inv-loop work₀ links usable kept scaled p k changed any₀ i₀ i-end work any i =
     (work ≡ iter (offered (netOf (p .nodes) (p .links) links usable) (problemOf p kept scaled) k) i work₀)
     × (length work ≡ length work₀) × (i ≤ i-end) × (any ≡ false → Same changed work₀ work)
 
@@ -38,8 +38,7 @@ loop-less c = search needs
 loop-again : tie.Need-loop-again Inv-loop μ-loop
 loop-again c =
     let i = c .before .before .before .before .before .loop .inv in
-    let o = c .before .before .offer in
-    (
+    let o = c .before .before .offer in (
       iter-more _ _ _ (i .0) (o .ensures .0),
       o .kept .0 ∙ i .1,
       search needs,

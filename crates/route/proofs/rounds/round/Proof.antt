@@ -15,7 +15,7 @@ use Rattle.route.proofs.rounds.round.Statement.{statement}
 use Rattle.route.proofs.rounds.round.Tie as tie
 
 abbrev Inv-loop : tie.InvT-loop
-Inv-loop work₀ links usable kept scaled p any₀ k₀ k-end work any k = 
+Inv-loop work₀ links usable kept scaled p any₀ k₀ k-end work any k =
     (work ≡ iter (column (netOf (p .nodes) (p .links) links usable) (problemOf p kept scaled)) k work₀)
     × (length work ≡ length work₀) × (k ≤ k-end) × (any ≡ false → work₀ ≡ work)
 
@@ -38,10 +38,9 @@ loop-less : tie.Need-loop-less Inv-loop μ-loop
 loop-less c = search needs
 
 loop-again : tie.Need-loop-again Inv-loop μ-loop
-loop-again c = 
+loop-again c =
     let i = c .before .before .before .before .before .loop .inv in
-    let o = c .before .before .relax-links in
-    (
+    let o = c .before .before .relax-links in (
       iter-more _ _ _ (i .0) (o .ensures .0),
       o .kept .0 ∙ i .1,
       search needs,

@@ -15,7 +15,7 @@ use Rattle.route.proofs.rounds.rounds.Statement.{statement}
 use Rattle.route.proofs.rounds.rounds.Tie as tie
 
 abbrev Inv-loop : tie.InvT-loop
-Inv-loop work₀ links usable kept scaled p counter₀ end work counter = 
+Inv-loop work₀ links usable kept scaled p counter₀ end work counter =
     (work ≡ iter (λ _. round (netOf (p .nodes) (p .links) links usable) (problemOf p kept scaled)) counter work₀)
     × (length work ≡ length work₀) × (counter ≤ end)
 
@@ -36,7 +36,7 @@ same-length c = let i = c .before .before .before .before .before .before .loop 
 
 returns : tie.Need-returns Inv-loop μ-loop
 unfolding rounds netOf
-returns c = 
+returns c =
     let i = c .before .before .before .before .before .before .loop .inv in
     let o = c .before .before .before .round in
     iter-settled _ _ _ _ (i .0) (omega arith) (o .ensures .0) (o .ensures .1 (not-true _ (c .if1 .taken)))
@@ -48,7 +48,7 @@ loop-less : tie.Need-loop-less Inv-loop μ-loop
 loop-less c = search needs
 
 loop-again : tie.Need-loop-again Inv-loop μ-loop
-loop-again c = 
+loop-again c =
     let i = c .before .before .before .before .before .before .loop .inv in
     let o = c .before .before .before .round in
     (iter-more _ _ _ (i .0) (o .ensures .0), o .kept .0 ∙ i .1, search needs)

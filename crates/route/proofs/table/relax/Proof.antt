@@ -31,11 +31,10 @@ same-length : tie.Need-same-length
 same-length c = search needs
 
 returns-2 : tie.Need-returns-2
-returns-2 c = 
+returns-2 c =
     let r = c .before .before .before .before .before .before .before .before .before .before .read-hop .ensures in
     let low = c .before .before .before .before .before .before .before .before .before .before .before .before .before .before .pre .1 .1 .0 in
-    let done = c .before .before .improve .ensures in
-    (
+    let done = c .before .before .improve .ensures in (
       hop-within _ _ _ _ _ _ _ _ _ r low (c .before .before .before .before .before .before .before .if1 .left) (c .before .before .before .before .cell .ensures .0) (c .before .before .before .cell2 .ensures .0) (done .0),
       done .1,
     )
