@@ -8,3 +8,4 @@ pub mod Trace
 pub mod Memory
 pub mod Solved
 pub mod Search
+pub mod Depends

@@ -1,4 +1,4 @@
--- Laws of counted loops: a loop's three needs, what it keeps, and when it may stop early.
+-- Laws of counted loops: a loop's three needs, what it keeps, when two loops agree, and when a loop may stop early.
 -- Assumes nothing.
 use mathlib.Core.Path.{_≡_, refl, sym, _∙_, ap, subst}
 use mathlib.Core.Bool.{Bool, true, false, cond, false≢true}
@@ -53,6 +53,12 @@ module _ {A : Type 0} (f : ℕ → A → A) where
   iter-both R zero step a b h = h
   iter-both R (suc n) step a b h = step n _ _ (omega arith) (iter-both R n (λ i a b l. step i a b (omega arith)) a b h)
 
+-- turns that agree below n make the same loop of n turns
+pub iter-same : {A : Type 0} (f h : ℕ → A → A) (n : ℕ) → ((i : ℕ) (a : A) → i < n → f i a ≡ h i a) → (a : A) → iter f n a ≡ iter h n a
+unfolding iter
+iter-same f h zero same a = refl
+iter-same f h (suc n) same a = ap (f n) (iter-same f h n (λ i a low. same i a (omega arith)) a) ∙ same n _ (omega arith)
+
 -- turns that all do the same: the first may be taken first
 pub iter-first : {A : Type 0} (g : A → A) (n : ℕ) (a : A) → iter (λ _. g) (suc n) a ≡ iter (λ _. g) n (g a)
 unfolding iter
@@ -103,3 +109,9 @@ module _ (f : ℕ → Bool) where
   pub first-nowhere : (n : ℕ) → ((j : ℕ) → j < n → f j ≡ false) → n ≡ first f n
   first-nowhere n none =
       by-lt (first f n) n (λ l. absurd (false≢true (sym (none (first f n) l) ∙ first-passes n l))) (λ l. omega (arith, first-most n))
+
+-- tests that agree below n pass first at the same number
+pub first-same : (f h : ℕ → Bool) (n : ℕ) → ((i : ℕ) → i < n → f i ≡ h i) → first f n ≡ first h n
+unfolding first
+first-same f h zero same = refl
+first-same f h (suc n) same = rw (first-same f h n (λ i low. same i (omega arith)), same n (omega arith))

@@ -4,3 +4,4 @@ pub mod Turn
 pub mod Forward
 pub mod Outcomes
 pub mod Reductions
+pub mod Result

@@ -6,14 +6,14 @@ ghost use Rattle.ebf.specs.Search.{search};
 ghost use Rattle.route.specs.Answers.{answerOf, pathAfter};
 ghost use Rattle.route.specs.Ready.{Ready};
 
-pub mod attempt;
-pub mod distance;
-pub mod path;
-pub mod problems;
-pub mod rounds;
-pub mod table;
-pub mod trace;
-pub mod weights;
+mod attempt;
+mod distance;
+mod path;
+mod problems;
+mod rounds;
+mod table;
+mod trace;
+mod weights;
 
 use crate::distance::distance;
 use crate::problems::both_problems;
