@@ -13,7 +13,7 @@ use Rattle.network.specs.Net.{Net, Ends, Walk, sum}
 use Rattle.network.specs.Problem.{Problem}
 use Rattle.network.proofs.Loops.{iter-keeps, iter-first}
 use Rattle.network.proofs.Tests.{by-eq}
-use Rattle.ebf.specs.Table.{cell, number, initialised, offered, column, round, rounds, ebf}
+use Rattle.ebf.specs.Table.{cell, number, initialised, offered, column, round, roundCount, rounds, ebf}
 use Rattle.ebf.proofs.Good.{Room, Good}
 use Rattle.ebf.proofs.Cells.{cell-inside}
 use Rattle.ebf.proofs.Relaxed.{tailCell, headCell, offer, offered-lower, offered-done}
@@ -99,6 +99,6 @@ ebf-complete g q ends s s-low l room t p w small short =
     let all : spare + sum (q .scaledBy) p ≡ q .x = omega arith in
     omega (
       arith,
-      rw all at (along g q ends s (g .nodes - 1) p s t spare (initialised g q s l) good w (omega arith) short),
+      rw all at (along g q ends s (roundCount g) p s t spare (initialised g q s l) good w (omega arith) (omega (arith, short))),
       good .source spare (omega arith),
     )

@@ -18,7 +18,7 @@ use Rattle.network.proofs.Loops.{iter-keeps, iter-brings, first-passes, first-b
 use Rattle.network.proofs.NodeSet.{member-empty, member-inserted, member-others}
 use Rattle.network.proofs.Short.{path-short}
 use Rattle.network.proofs.Cut.{cut-walk, cut-path}
-use Rattle.ebf.specs.Distance.{spreadLink, spread, layer, distance}
+use Rattle.ebf.specs.Distance.{leaves, spreadLink, spread, layer, distance}
 
 -- the number of a walk's links is the sum of ones
 ones : (p : List ℕ) → sum (λ i. 1) p ≡ length p
@@ -45,7 +45,7 @@ module _ (g : Net) where
         → ((g .usable i && member a (g .tail i)) ≡ false → P m)
         → P (spreadLink g a i m)
     by-link i m P adds skips =
-        by-test (g .usable i && member a (g .tail i)) (inserted m (g .head i)) m P
+        by-test (leaves g a i) (inserted m (g .head i)) m P
         (λ e. adds (fst-of (g .usable i) _ e) (snd-of (g .usable i) _ e)) skips
 
     link-keeps : (v i m : ℕ) → member m v ≡ true → member (spreadLink g a i m) v ≡ true

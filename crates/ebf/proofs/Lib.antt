@@ -1,4 +1,5 @@
 pub mod Good
+pub mod Decided
 pub mod Cells
 pub mod Relaxed
 pub mod Sound
@@ -8,4 +9,4 @@ pub mod Trace
 pub mod Memory
 pub mod Solved
 pub mod Search
-pub mod Depends
+pub mod Same

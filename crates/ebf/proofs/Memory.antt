@@ -10,16 +10,16 @@ use native.Mathlib.Nat.{le-refl, add-suc}
 use native.Mathlib.Omega.{arith}
 use lib.Dec.{leb}
 use lib.ListN.{length, replicate, length-replicate}
-use borrow.Author.Tests.{leb-true}
 use Rattle.network.specs.Loops.{iter}
 use Rattle.network.specs.Net.{Net, Ends}
 use Rattle.network.specs.Problem.{Problem}
 use Rattle.network.specs.Cut.{follow}
 use Rattle.network.proofs.Tests.{by-eq}
 use Rattle.network.proofs.Loops.{iter-none, iter-stays, iter-first, iter-both}
-use Rattle.ebf.specs.Table.{cell, cells, number, put, better, initialised, improved, relaxed, offered, column, round, rounds, ebf}
+use Rattle.ebf.specs.Table.{cell, cells, number, put, better, initialised, improved, allowed, relaxed, isEdge, offered, column, round, roundCount, rounds, ebf}
 use Rattle.ebf.specs.Trace.{stepBack, traced}
-use Rattle.ebf.specs.Solve.{pathIn, answerIn, solveIn, solve}
+use Rattle.ebf.specs.Solve.{pathIn, reached, answerIn, solveIn, solve}
+use Rattle.ebf.proofs.Decided.{allowed-small, reached-within}
 use Rattle.ebf.proofs.Cells.{cell-inside, length-put, number-put-same, number-put-other, link-put-same, link-put-other}
 use Rattle.ebf.proofs.Good.{at, via, Room, Trace, Good}
 use Rattle.ebf.proofs.Sound.{initialised-far, initialised-good, ebf-good}
@@ -70,11 +70,11 @@ module _ (g : Net) (q : Problem) (s : ℕ) where
   offered-same : Ends g → (k i : ℕ) (l l' : List ℕ) → k ≤ q .x → i < g .links → Same l l' → Same (offered g q k i l) (offered g q k i l')
   unfolding offered relaxed
   offered-same ends k i l l' k-low listed same =
-      both-cond Same (g .usable i)
+      both-cond Same (isEdge g i)
       (λ u.
-      both-cond Same (leb (k + q .scaledBy i) (q .x))
+      both-cond Same (allowed q (k + q .scaledBy i))
       (λ e.
-      let small : k + q .scaledBy i ≤ q .x = leb-true _ _ e in
+      let small : k + q .scaledBy i ≤ q .x = allowed-small q _ e in
       improved-same (cell (q .x) (g .tail i) k) (cell (q .x) (g .head i) (k + q .scaledBy i)) (q .kept i) i l l'
       (same .numbers (g .tail i) k (ends .tails i listed) k-low) (same .numbers (g .head i) (k + q .scaledBy i) (ends .heads i listed) small)
       (cell-inside (g .nodes) (q .x) (g .head i) (k + q .scaledBy i) (ends .heads i listed) small) same)
@@ -84,7 +84,7 @@ module _ (g : Net) (q : Problem) (s : ℕ) where
   rounds-same : Ends g → (l l' : List ℕ) → Same l l' → Same (rounds g q l) (rounds g q l')
   unfolding rounds round column
   rounds-same ends =
-      iter-both (λ _. round g q) Same (g .nodes - 1)
+      iter-both (λ _. round g q) Same (roundCount g)
       (λ r l l' _.
       iter-both (column g q) Same (q .x + 1)
       (λ k l l' k-low. iter-both (offered g q k) Same (g .links) (λ i l l' listed. offered-same ends k i l l' (omega arith) listed) l l') l l')
@@ -137,7 +137,7 @@ module _ (g : Net) (q : Problem) (s : ℕ) where
     unfolding answerIn pathIn
     answer-same good t t-low =
         rw (← same .numbers t (q .x) t-low (le-refl _))
-        (both-cond _≡_ (leb (at g q s l t (q .x)) (q .bound)) (λ e. ap (λ st. some (follow g (st .1) t (g .nodes - 1) s)) (traced-same good t t-low (leb-true _ _ e))) refl)
+        (both-cond _≡_ (reached q l t) (λ e. ap (λ st. some (follow g (st .1) t (g .nodes - 1) s)) (traced-same good t t-low (reached-within q l t e))) refl)
 
 pub any-memory : (g : Net) (q : Problem) → Ends g → (s t : ℕ) → s < g .nodes → t < g .nodes → (l l' : List ℕ) → Room g q s l → Room g q s l'
     → solveIn g q s t l ≡ solveIn g q s t l'

@@ -13,7 +13,8 @@ use borrow.Author.Tests.{leb-true, ltb-true, ltb-false, le-leb}
 use Rattle.network.specs.Net.{Net}
 use Rattle.network.specs.Problem.{Problem}
 use Rattle.network.proofs.Tests.{by-test, by-lt}
-use Rattle.ebf.specs.Table.{cell, number, put, better, improved, relaxed, offered}
+use Rattle.ebf.specs.Table.{cell, number, put, better, improved, allowed, relaxed, isEdge, offered}
+use Rattle.ebf.proofs.Decided.{small-allowed, allowed-small}
 use Rattle.ebf.proofs.Cells.{length-put, number-put-same, put-lower}
 
 -- ---- a link of kept weight w from cell a to cell b
@@ -54,8 +55,8 @@ module _ (g : Net) (q : Problem) (k i : ℕ) where
         → P (relaxed g q k i l)
     unfolding relaxed
     relaxed-cases P stored left =
-        by-test (leb (k + q .scaledBy i) (q .x)) (improved tailCell headCell (q .kept i) (q .bound) i l) l P
-        (λ e. improved-cases tailCell headCell (q .kept i) (q .bound) i l P (stored (leb-true _ _ e)) (λ _. left)) (λ e. left)
+        by-test (allowed q (k + q .scaledBy i)) (improved tailCell headCell (q .kept i) (q .bound) i l) l P
+        (λ e. improved-cases tailCell headCell (q .kept i) (q .bound) i l P (stored (allowed-small q _ e)) (λ _. left)) (λ e. left)
 
     pub offered-cases : (P : List ℕ → Type 0)
         → (g .usable i ≡ true → k + q .scaledBy i ≤ q .x → number l tailCell ≤ q .bound → offer l < number l headCell
@@ -64,7 +65,7 @@ module _ (g : Net) (q : Problem) (k i : ℕ) where
         → P (offered g q k i l)
     unfolding offered
     offered-cases P stored left =
-        by-test (g .usable i) (relaxed g q k i l) l P (λ u. relaxed-cases P (stored u) left) (λ e. left)
+        by-test (isEdge g i) (relaxed g q k i l) l P (λ u. relaxed-cases P (stored u) left) (λ e. left)
 
     pub offered-lower : (c : ℕ) → number (offered g q k i l) c ≤ number l c
     offered-lower c =
@@ -78,4 +79,4 @@ module _ (g : Net) (q : Problem) (k i : ℕ) where
         → number (offered g q k i l) headCell ≤ offer l
     unfolding offered relaxed
     offered-done u small has low =
-        rw (u, le-leb (k + q .scaledBy i) (q .x) small) (improved-done tailCell headCell (q .kept i) (q .bound) i l has low)
+        rw (u, small-allowed q (k + q .scaledBy i) small) (improved-done tailCell headCell (q .kept i) (q .bound) i l has low)

@@ -5,8 +5,6 @@ use mathlib.Core.Path.{_≡_}
 use mathlib.Core.List.{List}
 use mathlib.Core.Option.{Option, none, some}
 use Prim.Native.Nat.{ℕ, _*_, _≤_, _<_}
-use lib.Dec.{ltb}
-use borrow.Author.Tests.{ltb-true, ltb-false}
 use Rattle.network.specs.declared.Request.{Request}
 use Rattle.network.specs.Net.{Net, Ends}
 use Rattle.network.specs.Problem.{Distance}
@@ -14,7 +12,8 @@ use Rattle.network.specs.Reduce.{no-path, one, two, Found}
 use Rattle.network.proofs.Tests.{by-test}
 use Rattle.ebf.specs.Distance.{distance}
 use Rattle.ebf.specs.Solve.{solve}
-use Rattle.ebf.specs.Search.{outcomeOf, orElse, tried, search}
+use Rattle.ebf.specs.Search.{outcomeOf, orElse, tried, somewhere, search}
+use Rattle.ebf.proofs.Decided.{nowhere-high, somewhere-low}
 use Rattle.ebf.proofs.Distance.{distance-found, distance-none}
 use Rattle.ebf.proofs.Solved.{Solved, solved}
 
@@ -31,10 +30,10 @@ module _ (g : Net) (r : Request) where
   unfolding search tried
   search-finds ends few s-low t-low apart =
       let k : ℕ = distance g (r .source) (r .target) in
-      by-test (ltb k (g .nodes)) (tried g r (r .coefficient * k)) no-path (Found g r)
+      by-test (somewhere g k) (tried g r (r .coefficient * k)) no-path (Found g r)
       (λ e.
-      by-both k (distance-found g ends few (r .source) (r .target) s-low apart (ltb-true _ _ e))
+      by-both k (distance-found g ends few (r .source) (r .target) s-low apart (somewhere-low g k e))
       (solve g (one g r k) (r .source) (r .target)) (solve g (two g r k) (r .source) (r .target))
       (solved g (one g r k) ends few (r .source) (r .target) s-low t-low apart)
       (solved g (two g r k) ends few (r .source) (r .target) s-low t-low apart))
-      (λ e. Found.none (distance-none g ends few (r .source) (r .target) s-low apart (ltb-false _ _ e)))
+      (λ e. Found.none (distance-none g ends few (r .source) (r .target) s-low apart (nowhere-high g k e)))

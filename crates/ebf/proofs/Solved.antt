@@ -6,9 +6,7 @@ use mathlib.Core.List.{List}
 use mathlib.Core.Option.{Option, none, some}
 use Prim.Native.Nat.{ℕ, _*_, _-_, _≤_, _<_}
 use native.Mathlib.Omega.{arith}
-use lib.Dec.{leb}
 use lib.ListN.{replicate}
-use borrow.Author.Tests.{leb-true, leb-false}
 use Rattle.network.specs.Net.{Net, Ends, sum}
 use Rattle.network.specs.Problem.{Problem, Solves, Best, NoSolution}
 use Rattle.network.specs.Cut.{cut}
@@ -16,7 +14,8 @@ use Rattle.network.proofs.Tests.{by-test}
 use Rattle.network.proofs.Short.{path-short}
 use Rattle.network.proofs.Cut.{cut-walk, cut-path}
 use Rattle.ebf.specs.Table.{cells, number, ebf}
-use Rattle.ebf.specs.Solve.{pathIn, answerIn, solveIn, solve}
+use Rattle.ebf.specs.Solve.{pathIn, reached, answerIn, solveIn, solve}
+use Rattle.ebf.proofs.Decided.{reached-within, unreached-over}
 use Rattle.ebf.proofs.Good.{at, Room}
 use Rattle.ebf.proofs.Sound.{ebf-good}
 use Rattle.ebf.proofs.Complete.{ebf-complete}
@@ -60,9 +59,9 @@ module _ (g : Net) (q : Problem) (ends : Ends g) (few : g .nodes ≤ 32) (s t : 
     pub solved-in : Solved g q s t (solveIn g q s t l)
     unfolding solveIn answerIn
     solved-in =
-        by-test (leb told (q .bound)) (some (pathIn g q (ebf g q s l) s t)) none (Solved g q s t) (λ e. found (leb-true _ _ e))
+        by-test (reached q (ebf g q s l) t) (some (pathIn g q (ebf g q s l) s t)) none (Solved g q s t) (λ e. found (reached-within q (ebf g q s l) t e))
         (λ e o h.
-        let high : q .bound < told = leb-false _ _ e in
+        let high : q .bound < told = unreached-over q (ebf g q s l) t e in
         omega (arith, least o h, h .within))
 
   pub solved : Solved g q s t (solve g q s t)

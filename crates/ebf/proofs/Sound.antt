@@ -12,7 +12,7 @@ use Rattle.network.specs.Net.{Net, Ends}
 use Rattle.network.specs.Problem.{Problem}
 use Rattle.network.proofs.Loops.{iter-keeps}
 use Rattle.network.proofs.Tests.{by-eq}
-use Rattle.ebf.specs.Table.{cell, cells, number, linkAt, put, filled, initialised, relaxed, offered, column, round, rounds, ebf}
+use Rattle.ebf.specs.Table.{cell, cells, number, linkAt, put, filled, sourceCells, sourceNumber, initialised, relaxed, offered, column, round, roundCount, rounds, ebf}
 use Rattle.ebf.proofs.Good.{at, via, Room, Step, Trace, Good}
 use Rattle.ebf.proofs.Cells.{cell-inside, cell-node, cell-column, length-put, number-put-same, number-put-other, link-put-same, link-put-other, put-lower, length-filled, filled-inside, filled-outside}
 use Rattle.ebf.proofs.Relaxed.{tailCell, headCell, offer, relaxed-cases, offered-cases}
@@ -149,7 +149,7 @@ module _ (g : Net) (q : Problem) (s : ℕ) (l : List ℕ) (room : Room g q s l) 
   unfolding initialised cell
   initialised-far v k v-low k-low other =
       let inside : cell (q .x) v k < cells (g .nodes) (q .x) = cell-inside (g .nodes) (q .x) v k v-low k-low in
-      filled-outside (cell (q .x) s 0) (q .x + 1) 0 (filled 0 (cells (g .nodes) (q .x)) (q .bound + 1) l) (cell (q .x) v k)
+      filled-outside (cell (q .x) s 0) (sourceCells q) sourceNumber (filled 0 (cells (g .nodes) (q .x)) (q .bound + 1) l) (cell (q .x) v k)
       (λ from upto. other (cell-node (q .x) v k s (cell (q .x) v k - cell (q .x) s 0) k-low (omega arith) (omega arith)))
       ∙ filled-inside 0 (cells (g .nodes) (q .x)) (q .bound + 1) l (cell (q .x) v k) (omega arith) (omega arith) (omega arith)
 
@@ -159,7 +159,7 @@ module _ (g : Net) (q : Problem) (s : ℕ) (l : List ℕ) (room : Room g q s l) 
       let inside : cell (q .x) s k < cells (g .nodes) (q .x) = cell-inside (g .nodes) (q .x) s k s-low k-low in
       let before : List ℕ = filled 0 (cells (g .nodes) (q .x)) (q .bound + 1) l in
       let long : length before ≡ length l = length-filled 0 (cells (g .nodes) (q .x)) (q .bound + 1) l in
-      filled-inside (cell (q .x) s 0) (q .x + 1) 0 before (cell (q .x) s k) (omega arith) (omega arith) (omega arith)
+      filled-inside (cell (q .x) s 0) (sourceCells q) sourceNumber before (cell (q .x) s k) (omega arith) (omega arith) (omega arith)
 
   initialised-length : length (initialised g q s l) ≡ length l
   unfolding initialised
@@ -180,5 +180,5 @@ module _ (g : Net) (q : Problem) (s : ℕ) (l : List ℕ) (room : Room g q s l) 
 pub ebf-good : (g : Net) (q : Problem) → Ends g → (s : ℕ) → s < g .nodes → (l : List ℕ) → Room g q s l → Good g q s (ebf g q s l)
 unfolding ebf rounds
 ebf-good g q ends s s-low l room =
-    iter-keeps (λ _. round g q) (Good g q s) (g .nodes - 1) (initialised g q s l) (λ _ r _. round-good g q ends s r)
+    iter-keeps (λ _. round g q) (Good g q s) (roundCount g) (initialised g q s l) (λ _ r _. round-good g q ends s r)
     (initialised-good g q s l room s-low)

@@ -6,9 +6,13 @@ use Rattle.network.specs.Loops.{iter, first}
 use Rattle.network.specs.Net.{Net}
 use Rattle.network.specs.NodeSet.{member, inserted}
 
--- a usable link out of the set adds its head
+-- a usable link out of the set
+abbrev pub leaves : Net → ℕ → ℕ → Bool
+leaves g set i = g .usable i && member set (g .tail i)
+
+-- adds its head
 abbrev pub spreadLink : Net → ℕ → ℕ → ℕ → ℕ
-spreadLink g set i more = let wider : ℕ = inserted more (g .head i) in cond (g .usable i && member set (g .tail i)) wider more
+spreadLink g set i more = let wider : ℕ = inserted more (g .head i) in cond (leaves g set i) wider more
 
 unfoldable pub spread : Net → ℕ → ℕ
 spread g set = iter (spreadLink g set) (g .links) set

@@ -1,7 +1,7 @@
 -- The whole search: section 2.3 of the paper. A function of the network and the request alone.
 -- Assumes nothing.
 use Prim.Native.Nat.{ℕ, _*_}
-use mathlib.Core.Bool.{cond}
+use mathlib.Core.Bool.{Bool, cond}
 use mathlib.Core.List.{List}
 use mathlib.Core.Option.{Option, none, some}
 use lib.Dec.{ltb}
@@ -28,9 +28,13 @@ tried g r x =
     let second : Outcome = outcomeOf 2 (solve g (problemTwo g r x) (r .source) (r .target)) in
     orElse (outcomeOf 1 (solve g (problemOne g r x) (r .source) (r .target))) second
 
+-- the distance k says that there is a path
+abbrev pub somewhere : Net → ℕ → Bool
+somewhere g k = ltb k (g .nodes)
+
 -- x is the coefficient times the distance
 unfoldable pub search : Net → Request → Outcome
 search g r =
     let k : ℕ = distance g (r .source) (r .target) in
     let found : Outcome = tried g r (r .coefficient * k) in
-    cond (ltb k (g .nodes)) found no-path
+    cond (somewhere g k) found no-path

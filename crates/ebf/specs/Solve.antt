@@ -1,7 +1,7 @@
 -- One reduced problem solved: the table, then the way back with its loops cut.
 -- Assumes nothing.
 use Prim.Native.Nat.{ℕ, _*_, _-_}
-use mathlib.Core.Bool.{cond}
+use mathlib.Core.Bool.{Bool, cond}
 use mathlib.Core.List.{List}
 use mathlib.Core.Option.{Option, none, some}
 use lib.Dec.{leb}
@@ -17,9 +17,12 @@ unfoldable pub pathIn : Net → Problem → List ℕ → ℕ → ℕ → List �
 pathIn g q l s t = follow g (traced g q l s t .1) t (g .nodes - 1) s
 
 -- whether a finished table says that t is reached within both bounds
+abbrev pub reached : Problem → List ℕ → ℕ → Bool
+reached q l t = leb (number l (cell (q .x) t (q .x))) (q .bound)
+
 unfoldable pub answerIn : Net → Problem → List ℕ → ℕ → ℕ → Option (List ℕ)
 answerIn g q l s t =
-    let path : Option (List ℕ) = some (pathIn g q l s t) in cond (leb (number l (cell (q .x) t (q .x))) (q .bound)) path none
+    let path : Option (List ℕ) = some (pathIn g q l s t) in cond (reached q l t) path none
 
 -- the answer found in a work memory that holds l at first
 unfoldable pub solveIn : Net → Problem → ℕ → ℕ → List ℕ → Option (List ℕ)

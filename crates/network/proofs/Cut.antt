@@ -12,7 +12,7 @@ use borrow.Author.Tests.{eq-eqb, ne-eqb, lt-leb}
 use Rattle.network.specs.Lists.{All, Distinct}
 use Rattle.network.specs.Net.{Net, Ends, Walk, IsPath, Some, nodesOf, sum}
 use Rattle.network.specs.NodeSet.{member}
-use Rattle.network.specs.Cut.{Notes, noted, noteLink, notes, follow, cut}
+use Rattle.network.specs.Cut.{Notes, leftAlready, noted, noteLink, notes, follow, cut}
 use Rattle.network.proofs.Tests.{by-eq, by-bool, by-test}
 use Rattle.network.proofs.NodeSet.{member-empty, member-inserted, member-others}
 use Rattle.network.proofs.Short.{walk-short}
@@ -29,7 +29,7 @@ module _ (g : Net) (i : ℕ) (n : Notes) where
       → (member (n .left) (g .tail i) ≡ false → P (set (n .next) (g .tail i) i))
       → P (noteLink g i n .next)
   unfolding noted
-  note-cases P = by-test (member (n .left) (g .tail i)) (n .next) (set (n .next) (g .tail i) i) P
+  note-cases P = by-test (leftAlready (n .left) (g .tail i)) (n .next) (set (n .next) (g .tail i) i) P
 
   note-same : (v : ℕ) → member (n .left) v ≡ true → getD (noteLink g i n .next) v 0 ≡ getD (n .next) v 0
   note-same v m =

@@ -14,9 +14,13 @@ pub record Notes : Type 0 where
   pub left : ℕ
   pub next : List ℕ
 
+-- a later link of the walk left v already
+abbrev pub leftAlready : ℕ → ℕ → Bool
+leftAlready left v = member left v
+
 -- link i, which leaves node v, is noted unless a later link of the walk left v already
 unfoldable pub noted : ℕ → ℕ → ℕ → List ℕ → List ℕ
-noted left v i next = let more : List ℕ = set next v i in cond (member left v) next more
+noted left v i next = let more : List ℕ = set next v i in cond (leftAlready left v) next more
 
 abbrev pub noteLink : Net → ℕ → Notes → Notes
 noteLink g i s = record { left = inserted (s .left) (g .tail i); next = noted (s .left) (g .tail i) i (s .next) }

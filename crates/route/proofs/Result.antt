@@ -13,7 +13,7 @@ use Rattle.network.specs.Problem.{NoPath}
 use Rattle.network.specs.Reduce.{Outcome, no-path, no-solution, granted, one, two, Found}
 use Rattle.network.proofs.Bounds.{one-distance, found-within, found-enough}
 use Rattle.ebf.specs.Search.{search}
-use Rattle.ebf.proofs.Depends.{search-depends}
+use Rattle.ebf.proofs.Same.{search-depends}
 use Rattle.ebf.proofs.Search.{search-finds}
 use Rattle.route.specs.Ready.{Ready}
 use Rattle.route.specs.Result.{Searchable, Unsolved, GrantedByOne, GrantedByTwo, Result}

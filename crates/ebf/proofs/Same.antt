@@ -19,7 +19,7 @@ use Rattle.network.proofs.Tests.{by-lt}
 use Rattle.network.proofs.Loops.{iter-done, iter-same, first-same}
 use Rattle.ebf.specs.Distance.{spreadLink, spread, layer, distance}
 use Rattle.ebf.specs.declared.Trail.{Trail}
-use Rattle.ebf.specs.Table.{cell, cells, linkAt, initialised, relaxed, offered, column, round, rounds, ebf}
+use Rattle.ebf.specs.Table.{cell, cells, linkAt, initialised, relaxed, offered, column, round, roundCount, rounds, ebf}
 use Rattle.ebf.specs.Trace.{trailBack, stepBack, traced}
 use Rattle.ebf.specs.Solve.{pathIn, answerIn, solveIn, solve}
 use Rattle.ebf.specs.Search.{tried, search}
@@ -94,7 +94,7 @@ module _ (g o : Net) (same : Alike g o) where
     ebf-depends : (s : ℕ) (l : List ℕ) → ebf g q s l ≡ ebf o p s l
     unfolding ebf rounds initialised
     ebf-depends s l =
-        loop-depends (λ _. round g q) (λ _. round o p) (g .nodes - 1) (o .nodes - 1) (ap (λ n. n - 1) (same .nodes)) (λ _ l _. round-depends l)
+        loop-depends (λ _. round g q) (λ _. round o p) (roundCount g) (roundCount o) (ap (λ n. n - 1) (same .nodes)) (λ _ l _. round-depends l)
         (initialised g q s l)
         ∙ cc
 

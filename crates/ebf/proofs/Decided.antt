@@ -1,0 +1,33 @@
+-- The search's own tests decide what they are to decide.
+-- Assumes nothing.
+use mathlib.Core.Path.{_≡_}
+use mathlib.Core.Bool.{true, false}
+use mathlib.Core.List.{List}
+use Prim.Native.Nat.{ℕ, _≤_, _<_}
+use borrow.Author.Tests.{leb-true, leb-false, le-leb, ltb-true, ltb-false}
+use Rattle.network.specs.Net.{Net}
+use Rattle.network.specs.Problem.{Problem}
+use Rattle.ebf.specs.Table.{cell, number, allowed}
+use Rattle.ebf.specs.Solve.{reached}
+use Rattle.ebf.specs.Search.{somewhere}
+
+-- scaled weight x itself is allowed, and no more
+pub small-allowed : (q : Problem) (k : ℕ) → k ≤ q .x → allowed q k ≡ true
+small-allowed q k h = le-leb _ _ h
+
+pub allowed-small : (q : Problem) (k : ℕ) → allowed q k ≡ true → k ≤ q .x
+allowed-small q k e = leb-true _ _ e
+
+-- kept weight equal to its bound is reached, and no more
+pub unreached-over : (q : Problem) (l : List ℕ) (t : ℕ) → reached q l t ≡ false → q .bound < number l (cell (q .x) t (q .x))
+unreached-over q l t e = leb-false _ _ e
+
+pub reached-within : (q : Problem) (l : List ℕ) (t : ℕ) → reached q l t ≡ true → number l (cell (q .x) t (q .x)) ≤ q .bound
+reached-within q l t e = leb-true _ _ e
+
+-- a distance below the number of nodes is one
+pub nowhere-high : (g : Net) (k : ℕ) → somewhere g k ≡ false → g .nodes ≤ k
+nowhere-high g k e = ltb-false _ _ e
+
+pub somewhere-low : (g : Net) (k : ℕ) → somewhere g k ≡ true → k < g .nodes
+somewhere-low g k e = ltb-true _ _ e
