@@ -7,7 +7,6 @@ use mathlib.Core.List.{List}
 use Prim.Native.Nat.{ℕ, _+_, _*_, _≤_, _<_}
 use native.Mathlib.Nat.{le-refl, le-of-eq}
 use native.Mathlib.Omega.{arith}
-use lib.Dec.{leb}
 use lib.ListN.{length}
 use borrow.Author.Tests.{leb-true, ltb-true, ltb-false, le-leb}
 use Rattle.network.specs.Net.{Net}

@@ -9,7 +9,7 @@ use lib.ListN.{getD, replicate}
 use borrow.Author.Tests.{le-leb}
 use Rattle.network.specs.declared.Request.{Request}
 use Rattle.network.specs.Loops.{iter, first}
-use Rattle.network.specs.Net.{Net, Alike}
+use Rattle.network.specs.Net.{Net}
 use Rattle.network.specs.NodeSet.{member, inserted}
 use Rattle.network.specs.Scale.{scaled}
 use Rattle.network.specs.Problem.{Problem}
@@ -17,6 +17,7 @@ use Rattle.network.specs.Cut.{follow}
 use Rattle.network.specs.Reduce.{delayBound, costBound, problemOne, problemTwo}
 use Rattle.network.proofs.Tests.{by-lt}
 use Rattle.network.proofs.Loops.{iter-done, iter-same, first-same}
+use Rattle.ebf.specs.Alike.{Alike}
 use Rattle.ebf.specs.Distance.{spreadLink, spread, layer, distance}
 use Rattle.ebf.specs.declared.Trail.{Trail}
 use Rattle.ebf.specs.Table.{cell, cells, linkAt, initialised, relaxed, offered, column, round, roundCount, rounds, ebf}

@@ -4,7 +4,7 @@
 use mathlib.Core.Path.{_≡_}
 use mathlib.Core.List.{List}
 use mathlib.Core.Option.{Option, none, some}
-use Prim.Native.Nat.{ℕ, _*_, _-_, _≤_, _<_}
+use Prim.Native.Nat.{ℕ, _*_, _≤_, _<_}
 use native.Mathlib.Omega.{arith}
 use lib.ListN.{replicate}
 use Rattle.network.specs.Net.{Net, Ends, sum}
@@ -13,7 +13,7 @@ use Rattle.network.specs.Cut.{cut}
 use Rattle.network.proofs.Tests.{by-test}
 use Rattle.network.proofs.Short.{path-short}
 use Rattle.network.proofs.Cut.{cut-walk, cut-path}
-use Rattle.ebf.specs.Table.{cells, number, ebf}
+use Rattle.ebf.specs.Table.{cells, ebf}
 use Rattle.ebf.specs.Solve.{pathIn, reached, answerIn, solveIn, solve}
 use Rattle.ebf.proofs.Decided.{reached-within, unreached-over}
 use Rattle.ebf.proofs.Good.{at, Room}

@@ -3,3 +3,4 @@ pub mod Trace
 pub mod Solve
 pub mod Distance
 pub mod Search
+pub mod Alike

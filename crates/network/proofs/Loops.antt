@@ -10,7 +10,7 @@ use native.Mathlib.Omega.{arith}
 use lib.Dec.{ltb}
 use borrow.Author.Tests.{ltb-true, ltb-false}
 use Rattle.network.specs.Loops.{iter, first}
-use Rattle.network.proofs.Tests.{by-eq, by-lt, by-test, by-bool}
+use Rattle.network.proofs.Tests.{by-eq, by-lt, by-test}
 
 module _ {A : Type 0} (f : ℕ → A → A) where
   -- before the first turn

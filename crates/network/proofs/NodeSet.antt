@@ -1,7 +1,7 @@
 -- Laws of the node set: a node that was put in is in it, and no other comes or goes.
 -- Assumes nothing.
 use mathlib.Core.Path.{_≡_, refl, ap, _∙_}
-use mathlib.Core.Bool.{Bool, true, false}
+use mathlib.Core.Bool.{true, false}
 use Prim.Native.Nat.{ℕ, zero, suc, _+_, _-_, _/_, _%_, _^_, _<_}
 use native.Mathlib.Nat.{div-self, div-eq-of-lt, zero-div, mul-mod-left, pow-suc}
 use native.Mathlib.Omega.{arith}

@@ -1,14 +1,14 @@
 -- A path's test says what its statement says.
 -- Assumes nothing.
-use mathlib.Core.Path.{_≡_, refl, sym, _∙_, subst}
-use mathlib.Core.Bool.{Bool, true, false, not, _&&_, _||_, and-eq-true-iff, false≢true, true≢false}
-use mathlib.Core.List.{List, [], _∷_, map}
-use Prim.Native.Nat.{ℕ, _<_}
-use lib.Dec.{ltb, eqb}
+use mathlib.Core.Path.{_≡_, refl}
+use mathlib.Core.Bool.{Bool, true, false, _||_, and-eq-true-iff, false≢true, true≢false}
+use mathlib.Core.List.{List, [], _∷_}
+use Prim.Native.Nat.{ℕ}
+use lib.Dec.{eqb}
 use borrow.Author.Tests.{ltb-true, eqb-true, eqb-false, lt-ltb, eq-eqb, ne-eqb, not-true}
 use Rattle.network.specs.Lists.{All, memb, distinctb, Distinct}
 use Rattle.network.proofs.Tests.{fst-of, snd-of}
-use Rattle.network.specs.Net.{Net, Walk, walkb, Some, someb, nodesOf, IsPath, isPathb}
+use Rattle.network.specs.Net.{Net, Walk, walkb, nodesOf, IsPath, isPathb}
 
 -- ---- no number twice
 pub apart : (a : ℕ) (l : List ℕ) → memb a l ≡ false → All (λ b. a ≡ b → ⊥) l

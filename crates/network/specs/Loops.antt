@@ -1,7 +1,7 @@
 -- Counted loops as functions: what the contracts of loops are equated with.
 -- Assumes nothing.
 use Prim.Native.Nat.{ℕ, zero, suc}
-use mathlib.Core.Bool.{Bool, true, false, cond, _&&_}
+use mathlib.Core.Bool.{Bool, cond}
 use lib.Dec.{ltb}
 
 -- the state after the turns 0 to n − 1

@@ -23,16 +23,6 @@ pub record Ends (g : Net) : Type 0 where
   pub tails : (i : ℕ) → i < g .links → g .tail i < g .nodes
   pub heads : (i : ℕ) → i < g .links → g .head i < g .nodes
 
--- two networks that agree in all that a search may depend on
-pub record Alike (g o : Net) : Type 0 where
-  pub nodes : g .nodes ≡ o .nodes
-  pub links : g .links ≡ o .links
-  pub tail : (i : ℕ) → i < g .links → g .tail i ≡ o .tail i
-  pub head : (i : ℕ) → i < g .links → g .head i ≡ o .head i
-  pub usable : (i : ℕ) → i < g .links → g .usable i ≡ o .usable i
-  pub delay : (i : ℕ) → i < g .links → g .delay i ≡ o .delay i
-  pub cost : (i : ℕ) → i < g .links → g .cost i ≡ o .cost i
-
 -- p is usable links from s to t, each beginning where the one before ended
 abbrev pub Walk : Net → ℕ → ℕ → List ℕ → Type 0
 Walk g s t [] = s ≡ t

@@ -22,10 +22,10 @@ use Rattle.route.specs.declared.Leg.{Leg}
 use Rattle.route.specs.Forward.{advanced, legOn, legStart, forwarded}
 
 -- ---- one turn
-module _ (n m : ℕ) (links usable next : List ℕ) (t : ℕ) (w : Leg) (path : List ℕ) where
+module _ (n m : ℕ) (links next : List ℕ) (t : ℕ) (w : Leg) (path : List ℕ) where
   -- the turn as the code's contract has it
   abbrev Advanced : Leg → List ℕ → Type 0
-  Advanced r after = (r, after) ≡ advanced (netOf n m links usable) next t (w, path)
+  Advanced r after = (r, after) ≡ advanced (netOf n m links []) next t (w, path)
 
   -- at t
   pub advance-home : w .node ≡ t → Advanced w path

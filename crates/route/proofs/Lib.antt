@@ -1,6 +1,7 @@
 pub mod Columns
 pub mod Steps
 pub mod Turn
+pub mod Unflagged
 pub mod Forward
 pub mod Outcomes
 pub mod Reductions

@@ -1,10 +1,10 @@
 -- One problem's answer from what its parts leave: the table is the model's whatever memory held before, and the pass
 -- gives the followed links with their own sums.
 -- Assumes nothing.
-use mathlib.Core.Path.{_≡_, refl, sym, ap, _∙_}
+use mathlib.Core.Path.{_≡_, sym, ap, _∙_}
 use mathlib.Core.List.{List, _++_}
-use mathlib.Core.Option.{Option, none, some}
-use Prim.Native.Nat.{ℕ, _+_, _*_, _-_, _≤_, _<_}
+use mathlib.Core.Option.{none, some}
+use Prim.Native.Nat.{ℕ, _+_, _-_, _≤_, _<_}
 use native.Mathlib.Omega.{arith}
 use lib.ListN.{length, drop}
 use borrow.Author.Tests.{le-leb, lt-leb}
@@ -20,24 +20,23 @@ use Rattle.ebf.proofs.Good.{Room}
 use Rattle.ebf.proofs.Memory.{any-memory-solves}
 use Rattle.route.specs.declared.Leg.{Leg}
 use Rattle.route.specs.declared.Reduced.{Reduced}
-use Rattle.route.specs.declared.Answer.{Answer}
 use Rattle.route.specs.declared.Answer.the-variants.{NoSolution, Granted}
 use Rattle.route.specs.Ready.{Links}
-use Rattle.route.specs.Solver.{Sound, problemOf}
+use Rattle.route.specs.Solver.{Sound, netIn, problemOf}
 use Rattle.route.specs.Forward.{forwarded}
 use Rattle.route.specs.Answers.{answerOf, pathAfter}
 use Rattle.route.proofs.Steps.{cells-below}
 use Rattle.route.proofs.Forward.{follow-short, forward-links, forward-delay, forward-cost, forward-path}
 
 -- the ends that the table's words give are nodes
-pub net-ends : (n m : ℕ) (links usable : List ℕ) → Links n m links usable → Ends (netOf n m links usable)
+pub net-ends : (n m : ℕ) (links usable : List ℕ) → Links n m links → Ends (netOf n m links usable)
 unfolding netOf
 net-ends n m links usable h = record { tails = h .words .from; heads = h .words .to }
 
 module _ (p : Reduced) (links usable kept scaled : List ℕ) (s t : ℕ) (sound : Sound p links usable kept)
     (s-low : s < p .nodes) (t-low : t < p .nodes) (l : List ℕ) (memory : 16384 ≤ length l) where
   abbrev g : Net
-  g = netOf (p .nodes) (p .links) links usable
+  g = netIn p links usable
 
   abbrev q : Problem
   q = problemOf p kept scaled
@@ -45,7 +44,7 @@ module _ (p : Reduced) (links usable kept scaled : List ℕ) (s t : ℕ) (sound 
   -- 16,384 words are enough for every table
   room : Room g q s l
   unfolding cells netOf problemOf
-  room = omega (arith, cells-below (p .nodes) (p .x) (sound .table .nodes-most) (sound .x))
+  room = omega (arith, cells-below (p .nodes) (p .x) (sound .prepared .table .nodes-most) (sound .prepared .x))
 
   -- lines 1 to 5 and then the rounds
   pub table-is : {l₁ l₂ : List ℕ}
@@ -59,7 +58,7 @@ module _ (p : Reduced) (links usable kept scaled : List ℕ) (s t : ℕ) (sound 
     solve-is : solve g q s t ≡ answerIn g q l₂ s t
     unfolding solveIn netOf
     solve-is =
-        sym (any-memory-solves g q (net-ends _ _ _ _ (sound .table)) s t s-low t-low l room) ∙ ap (λ (z : List ℕ). answerIn g q z s t) (sym table)
+        sym (any-memory-solves g q (net-ends _ _ _ usable (sound .prepared .table)) s t s-low t-low l room) ∙ ap (λ (z : List ℕ). answerIn g q z s t) (sym table)
 
     unsolved : p .bound < number l₂ (cell (p .x) t (p .x)) → solve g q s t ≡ none
     unfolding answerIn problemOf
@@ -103,6 +102,6 @@ module _ (p : Reduced) (links usable kept scaled : List ℕ) (s t : ℕ) (sound 
       pub writes-path : (which : ℕ) → 31 ≤ length path → path' ≡ pathAfter (outcomeOf which (solve g q s t)) path
       unfolding pathAfter netOf
       writes-path which buffer =
-          let fits : length links-found ≤ length path = omega (arith, follow-short g next t (g .nodes - 1) s, sound .table .nodes-most) in
+          let fits : length links-found ≤ length path = omega (arith, follow-short g next t (g .nodes - 1) s, sound .prepared .table .nodes-most) in
           let a : path' ≡ links-found ++ drop (length links-found) path = ap (λ (z : Leg × List ℕ). z .1) pass ∙ forward-path g next s t path fits in
           simp path-is a

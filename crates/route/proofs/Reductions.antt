@@ -1,11 +1,11 @@
 -- Both problems of a request from prepared columns: the columns are the network's weights at every link number, so
 -- the problem that the solver gets is the request's own, and the first answer stands unless it is no solution.
 -- Assumes nothing.
-use mathlib.Core.Path.{_≡_, refl, sym, ap, _∙_, subst, fun-ext}
+use mathlib.Core.Path.{_≡_, refl, sym, ap, _∙_, fun-ext}
 use mathlib.Core.List.{List, [], _∷_}
 use mathlib.Core.Logic.{⊎-elim}
 use mathlib.Core.Option.{Option, none, some}
-use Prim.Native.Nat.{ℕ, _+_, _*_, _≤_, _<_}
+use Prim.Native.Nat.{ℕ, _*_, _≤_, _<_}
 use native.Mathlib.Nat.{mul-le-mul}
 use native.Mathlib.Omega.{arith}
 use types.Run.{OneOf}
@@ -24,8 +24,7 @@ use Rattle.ebf.specs.Search.{outcomeOf, orElse, tried, search}
 use Rattle.route.specs.declared.Reduced.{Reduced}
 use Rattle.route.specs.declared.Answer.{Answer}
 use Rattle.route.specs.declared.Answer.the-variants.{NoSolution}
-use Rattle.route.specs.Ready.{Ready}
-use Rattle.route.specs.Solver.{Sound, problemOf}
+use Rattle.route.specs.Solver.{problemOf}
 use Rattle.route.specs.Forward.{Columns}
 use Rattle.route.specs.Answers.{answerOf, pathAfter}
 
@@ -43,33 +42,35 @@ module _ (m : ℕ) (links : List ℕ) (whole : length links ≡ 5 * m) (j : ℕ)
 abbrev pub reduced : ℕ → ℕ → ℕ → ℕ → Reduced
 reduced n m x bound = record { nodes = n; links = m; x = x; bound = bound }
 
+-- the kept column holds the weight w, the other column the weight v, and the scales are those of the other column
+-- with its bound, `limit`
+columns-reduce : (n m x bound limit : ℕ) (kept other scales : List ℕ) {w v : ℕ → ℕ} → ((i : ℕ) → getD kept i 0 ≡ w i)
+    → ((i : ℕ) → getD other i 0 ≡ v i)
+    → ((i : ℕ) → getD scales i 0 ≡ scaled x limit (getD other i 0))
+    → problemOf (reduced n m x bound) kept scales ≡ record { kept = w; bound = bound; scaledBy = λ i. scaled x limit (v i); x = x }
+unfolding problemOf
+columns-reduce n m x bound limit kept other scales keeps others scaling =
+    λ z.
+    record {
+      kept = fun-ext keeps z;
+      bound = bound;
+      scaledBy = fun-ext (λ i. scaling i ∙ ap (scaled x limit) (others i)) z;
+      x = x;
+    }
+
 module _ (n m : ℕ) (links usable : List ℕ) (r : Request) (x : ℕ) (delay cost scales : List ℕ) (columns : Columns links delay cost) where
   abbrev g : Net
   g = netOf n m links usable
 
   pub one-is : ((i : ℕ) → getD scales i 0 ≡ scaled x (costBound r) (getD cost i 0))
       → problemOf (reduced n m x (delayBound r)) delay scales ≡ problemOne g r x
-  unfolding problemOf problemOne netOf
-  one-is scaling =
-      λ z.
-      record {
-        kept = fun-ext (λ i. columns .delays i) z;
-        bound = delayBound r;
-        scaledBy = fun-ext (λ i. scaling i ∙ ap (scaled x (costBound r)) (columns .costs i)) z;
-        x = x;
-      }
+  unfolding problemOne netOf
+  one-is = columns-reduce n m x (delayBound r) (costBound r) delay cost scales (columns .delays) (columns .costs)
 
   pub two-is : ((i : ℕ) → getD scales i 0 ≡ scaled x (delayBound r) (getD delay i 0))
       → problemOf (reduced n m x (costBound r)) cost scales ≡ problemTwo g r x
-  unfolding problemOf problemTwo netOf
-  two-is scaling =
-      λ z.
-      record {
-        kept = fun-ext (λ i. columns .costs i) z;
-        bound = costBound r;
-        scaledBy = fun-ext (λ i. scaling i ∙ ap (scaled x (delayBound r)) (columns .delays i)) z;
-        x = x;
-      }
+  unfolding problemTwo netOf
+  two-is = columns-reduce n m x (costBound r) (delayBound r) cost delay scales (columns .costs) (columns .delays)
 
 -- ---- the first answer, else the second
 -- an answer of another case than the second is not `NoSolution`

@@ -1,17 +1,18 @@
 -- The search keeps its stated result. The four outcomes exclude each other, so each refusal is given exactly where
 -- its reason holds.
 -- Assumes nothing.
-use Prim.Native.Nat.{ℕ, _≤_, _<_}
+use Prim.Native.Nat.{ℕ}
 use mathlib.Core.Path.{_≡_, refl}
 use mathlib.Core.List.{List}
 use mathlib.Core.Logic.{_⊎_, inl, inr}
 use native.Mathlib.Omega.{arith}
-use Rattle.network.specs.Net.{Net, Alike}
+use Rattle.network.specs.Net.{Net}
 use Rattle.network.specs.Words.{netOf}
 use Rattle.network.specs.declared.Request.{Request}
 use Rattle.network.specs.Problem.{NoPath}
-use Rattle.network.specs.Reduce.{Outcome, no-path, no-solution, granted, one, two, Found}
+use Rattle.network.specs.Reduce.{Outcome, no-path, no-solution, granted, Found}
 use Rattle.network.proofs.Bounds.{one-distance, found-within, found-enough}
+use Rattle.ebf.specs.Alike.{Alike}
 use Rattle.ebf.specs.Search.{search}
 use Rattle.ebf.proofs.Same.{search-depends}
 use Rattle.ebf.proofs.Search.{search-finds}

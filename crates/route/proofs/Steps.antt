@@ -1,6 +1,6 @@
 -- The cases of one relaxation as equations with the model, and the bounds of the table's cells.
 -- Assumes nothing.
-use mathlib.Core.Path.{_≡_, refl, sym, _∙_}
+use mathlib.Core.Path.{_≡_, refl, _∙_}
 use mathlib.Core.Bool.{Bool, true, false, true≢false}
 use mathlib.Core.List.{List}
 use Prim.Native.Nat.{ℕ, _+_, _*_, _-_, _≤_, _<_}
@@ -14,7 +14,7 @@ use Rattle.ebf.specs.Table.{cell, number, put, improved, relaxed, offered}
 use Rattle.network.specs.Words.{netOf}
 use Rattle.route.specs.declared.Hop.{Hop}
 use Rattle.route.specs.declared.Reduced.{Reduced}
-use Rattle.route.specs.Solver.{problemOf, Hopped, Same}
+use Rattle.route.specs.Solver.{unflagged, problemOf, Hopped, Same}
 
 -- rows and cells of 32 nodes and x up to 248
 pub row-below : (x v : ℕ) → v < 32 → x ≤ 248 → v * (x + 1) ≤ 7719
@@ -61,22 +61,20 @@ module _ (g : Net) (q : Problem) (k i : ℕ) (l : List ℕ) where
   offered-usable u = simp u
 
 -- the same, of a link as it was read
-module _ (p : Reduced) (links usable kept scaled : List ℕ) (k i : ℕ) (l : List ℕ) (h : Hop) (r : Hopped links kept scaled i h)
+module _ (p : Reduced) (links kept scaled : List ℕ) (k i : ℕ) (l : List ℕ) (h : Hop) (r : Hopped links kept scaled i h)
     (low : k ≤ p .x) where
-  pub hop-over : p .x - k < h .step
-      → l ≡ relaxed (netOf (p .nodes) (p .links) links usable) (problemOf p kept scaled) k i l
+  pub hop-over : p .x - k < h .step → l ≡ relaxed (unflagged p links) (problemOf p kept scaled) k i l
   unfolding netOf problemOf
-  hop-over over =
-      relaxed-over (netOf (p .nodes) (p .links) links usable) (problemOf p kept scaled) k i l (omega (arith, r .step))
+  hop-over over = relaxed-over (unflagged p links) (problemOf p kept scaled) k i l (omega (arith, r .step))
 
   pub hop-within : h .step ≤ p .x - k
       → {a b : ℕ} → a ≡ cell (p .x) (h .tail) k → b ≡ cell (p .x) (h .head) (k + h .step)
       → {l' : List ℕ} → l' ≡ improved a b (h .weight) (p .bound) i l
-      → l' ≡ relaxed (netOf (p .nodes) (p .links) links usable) (problemOf p kept scaled) k i l
+      → l' ≡ relaxed (unflagged p links) (problemOf p kept scaled) k i l
   unfolding netOf problemOf
   hop-within within {a} {b} ea eb {l'} e =
       e ∙ simp (ea, eb, r .tail, r .head, r .weight, r .step)
-      (relaxed-within (netOf (p .nodes) (p .links) links usable) (problemOf p kept scaled) k i l (omega (arith, r .step)))
+      (relaxed-within (unflagged p links) (problemOf p kept scaled) k i l (omega (arith, r .step)))
 
 -- a link's flag
 module _ (n m : ℕ) (links usable : List ℕ) (i : ℕ) where

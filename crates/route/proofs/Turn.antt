@@ -15,18 +15,17 @@ use Rattle.ebf.specs.declared.Trail.{Trail}
 use Rattle.ebf.specs.Table.{cell, linkAt}
 use Rattle.ebf.specs.Trace.{stepBack, trailBack}
 use Rattle.route.specs.declared.Reduced.{Reduced}
-use Rattle.route.specs.Solver.{problemOf}
+use Rattle.route.specs.Solver.{problemOf, unflagged, scaledOnly}
 
 -- at s
 pub stays-home : (g : Net) (q : Problem) (work : List ℕ) (s : ℕ) (st : Trail × List ℕ) → st .0 .node ≡ s → stepBack g q work s st ≡ st
 unfolding stepBack
 stays-home g q work s st h = simp (eq-eqb _ _ h)
 
-module _ (p : Reduced) (links usable kept scaled work : List ℕ) (s : ℕ) (w : Trail) (next : List ℕ) where
+module _ (p : Reduced) (links scaled work : List ℕ) (s : ℕ) (w : Trail) (next : List ℕ) where
   -- the turn as the code's contract has it
   abbrev Turned : Trail → List ℕ → Type 0
-  Turned r after =
-      (r, after) ≡ stepBack (netOf (p .nodes) (p .links) links usable) (problemOf p kept scaled) work s (w, next)
+  Turned r after = (r, after) ≡ stepBack (unflagged p links) (scaledOnly p scaled) work s (w, next)
 
   module _ (i : ℕ) (away : w .node ≡ s → ⊥) (kept-here : i ≡ linkAt work (cell (p .x) (w .node) (w .column))) where
     -- the word is no link

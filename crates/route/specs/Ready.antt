@@ -8,16 +8,16 @@ use Rattle.network.specs.Words.{LinkWords}
 use Rattle.network.specs.Reduce.{delayBound, costBound}
 use Rattle.network.specs.declared.Request.{Request}
 
--- a link table of n nodes and m links, and a flag for each link
-pub record Links (n m : ℕ) (links usable : List ℕ) : Type 0 where
+-- a link table of n nodes and m links
+pub record Links (n m : ℕ) (links : List ℕ) : Type 0 where
   pub nodes-some : 0 < n
   pub nodes-most : n ≤ 32
   pub links-most : m ≤ 256
   pub words : LinkWords n m links
-  pub flags : m ≤ length usable
 
 pub record Ready (n m : ℕ) (links usable work path : List ℕ) (r : Request) : Type 0 where
-  pub table : Links n m links usable
+  pub table : Links n m links
+  pub flags : m ≤ length usable
   pub memory : 16384 ≤ length work
   pub buffer : 31 ≤ length path
   pub source : r .source < n

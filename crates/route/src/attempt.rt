@@ -1,11 +1,10 @@
 // One reduced problem: the table, and where it reaches t within both bounds the path.
 ghost use mathlib.Core.Path.{_≡_};
-ghost use Prim.Native.Nat.{ℕ, _≤_, _<_};
+ghost use Prim.Native.Nat.{_≤_, _<_};
 ghost use lib.ListN.{length};
-ghost use Rattle.network.specs.Words.{netOf};
 ghost use Rattle.ebf.specs.Solve.{solve};
 ghost use Rattle.ebf.specs.Search.{outcomeOf};
-ghost use Rattle.route.specs.Solver.{Sound, problemOf};
+ghost use Rattle.route.specs.Solver.{Sound, netIn, problemOf};
 ghost use Rattle.route.specs.Forward.{Columns};
 ghost use Rattle.route.specs.Answers.{answerOf, pathAfter};
 use crate::Answer;
@@ -35,10 +34,10 @@ pub fn attempt(
     requires { ⌜ Sound p (now links) (now usable) (now kept) ⌝ }
     requires { ⌜ Columns (now links) (now delay) (now cost) ⌝ }
     requires { ⌜ (16384 ≤ length (now work)) × (31 ≤ length (now path)) × (s < p .nodes) × (t < p .nodes) × (s ≡ t → ⊥) ⌝ }
-    ensures answer { λ a. ⌜ a ≡ answerOf (netOf (p .nodes) (p .links) (now (links .entry)) (now (usable .entry)))
-        (outcomeOf which (solve (netOf (p .nodes) (p .links) (now (links .entry)) (now (usable .entry))) (problemOf p (now (kept .entry)) (now (scaled .entry))) s t)) ⌝ }
+    ensures answer { λ a. ⌜ a ≡ answerOf (netIn p (now (links .entry)) (now (usable .entry)))
+        (outcomeOf which (solve (netIn p (now (links .entry)) (now (usable .entry))) (problemOf p (now (kept .entry)) (now (scaled .entry))) s t)) ⌝ }
     ensures path { λ _. ⌜ now (path .exit) ≡ pathAfter
-        (outcomeOf which (solve (netOf (p .nodes) (p .links) (now (links .entry)) (now (usable .entry))) (problemOf p (now (kept .entry)) (now (scaled .entry))) s t)) (now (path .entry)) ⌝ }
+        (outcomeOf which (solve (netIn p (now (links .entry)) (now (usable .entry))) (problemOf p (now (kept .entry)) (now (scaled .entry))) s t)) (now (path .entry)) ⌝ }
 {
     initialise(work, p, s);
     rounds(work, links, usable, kept, scaled, p);
@@ -46,19 +45,8 @@ pub fn attempt(
     if p.bound < work[2 * at] {
         return Answer::NoSolution;
     }
-    let next = trace(work, links, usable, kept, scaled, p, s, t);
-    let w = forward(
-        p.nodes,
-        p.links,
-        links,
-        usable,
-        delay,
-        cost,
-        &next,
-        path,
-        s,
-        t,
-    );
+    let next = trace(work, links, scaled, p, s, t);
+    let w = forward(p.nodes, p.links, links, delay, cost, &next, path, s, t);
     Answer::Granted(Grant {
         problem: which,
         delay: w.delay,

@@ -1,6 +1,8 @@
-// The noted links from s to t, written into the path buffer, with the path's own totals.
+// The noted links from s to t, written into the path buffer, with the path's own totals. The contracts give the
+// network no flags, [], since the pass does not ask which links are usable.
+ghost use mathlib.Core.List.{[]};
 ghost use mathlib.Core.Path.{_≡_};
-ghost use Prim.Native.Nat.{ℕ, _+_, _*_, _≤_, _<_};
+ghost use Prim.Native.Nat.{_+_, _≤_, _<_};
 ghost use lib.ListN.{length};
 ghost use Rattle.network.specs.Words.{netOf};
 ghost use Rattle.route.specs.Ready.{Links};
@@ -13,7 +15,6 @@ fn advance(
     n: usize,
     m: usize,
     links: &[u32],
-    usable: &[u32],
     delay: &[u32; 256],
     cost: &[u32; 256],
     next: &[u32; 32],
@@ -22,10 +23,10 @@ fn advance(
     k: usize,
     w: Leg,
 ) -> Leg
-    requires { ⌜ Links n m (now links) (now usable) ⌝ }
+    requires { ⌜ Links n m (now links) ⌝ }
     requires { ⌜ Columns (now links) (now delay) (now cost) ⌝ }
     requires { ⌜ (31 ≤ length (now path)) × (k < 31) × OnWay n k w ⌝ }
-    ensures is { λ r. ⌜ (r, now (path .exit)) ≡ advanced (netOf n m (now (links .entry)) (now (usable .entry))) (now (next .entry)) t (w, now (path .entry)) ⌝ }
+    ensures is { λ r. ⌜ (r, now (path .exit)) ≡ advanced (netOf n m (now (links .entry)) []) (now (next .entry)) t (w, now (path .entry)) ⌝ }
     ensures on { λ r. ⌜ OnWay n (k + 1) r ⌝ }
 {
     if w.node == t {
@@ -51,7 +52,6 @@ pub fn forward(
     n: usize,
     m: usize,
     links: &[u32],
-    usable: &[u32],
     delay: &[u32; 256],
     cost: &[u32; 256],
     next: &[u32; 32],
@@ -59,10 +59,10 @@ pub fn forward(
     s: usize,
     t: usize,
 ) -> Leg
-    requires { ⌜ Links n m (now links) (now usable) ⌝ }
+    requires { ⌜ Links n m (now links) ⌝ }
     requires { ⌜ Columns (now links) (now delay) (now cost) ⌝ }
     requires { ⌜ (31 ≤ length (now path)) × (s < n) ⌝ }
-    ensures is { λ r. ⌜ (r, now (path .exit)) ≡ forwarded (netOf n m (now (links .entry)) (now (usable .entry))) (now (next .entry)) s t (now (path .entry)) ⌝ }
+    ensures is { λ r. ⌜ (r, now (path .exit)) ≡ forwarded (netOf n m (now (links .entry)) []) (now (next .entry)) s t (now (path .entry)) ⌝ }
     ensures on { λ r. ⌜ OnWay n 31 r ⌝ }
 {
     let mut w = Leg {
@@ -72,7 +72,7 @@ pub fn forward(
         cost: 0,
     };
     for k in 0..n - 1 {
-        w = advance(n, m, links, usable, delay, cost, next, path, t, k, w);
+        w = advance(n, m, links, delay, cost, next, path, t, k, w);
     }
     w
 }

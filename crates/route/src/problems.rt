@@ -1,6 +1,6 @@
 // Section 2.3 of the paper: problem one, and only where it has no solution problem two, with the weights exchanged.
 ghost use mathlib.Core.Path.{_≡_};
-ghost use Prim.Native.Nat.{ℕ, _≤_, _<_};
+ghost use Prim.Native.Nat.{_≤_};
 ghost use Rattle.network.specs.Words.{netOf};
 ghost use Rattle.ebf.specs.Search.{tried};
 ghost use Rattle.route.specs.Answers.{answerOf, pathAfter};

@@ -1,12 +1,11 @@
 // Lines 20 to 24 in the paper's order: rounds, k rising, links in table order. A round that changes nothing ends
 // the rounds, since the rest of them would change nothing either.
 ghost use mathlib.Core.Path.{_≡_};
-ghost use mathlib.Core.Bool.{Bool, false};
-ghost use Prim.Native.Nat.{_≤_, _<_};
+ghost use mathlib.Core.Bool.{false};
+ghost use Prim.Native.Nat.{_≤_};
 ghost use lib.ListN.{length};
-ghost use Rattle.network.specs.Words.{netOf};
 ghost use Rattle.ebf.specs.Table.{column, round, rounds};
-ghost use Rattle.route.specs.Solver.{Sound, problemOf, Same};
+ghost use Rattle.route.specs.Solver.{Sound, netIn, problemOf, Same};
 use crate::Reduced;
 use crate::table::offer;
 
@@ -24,7 +23,7 @@ fn relax_links(
     requires { ⌜ Sound p (now links) (now usable) (now kept) ⌝ }
     requires { ⌜ 16384 ≤ length (now work) ⌝ }
     requires { ⌜ k ≤ p .x ⌝ }
-    ensures is { λ _. ⌜ now (work .exit) ≡ column (netOf (p .nodes) (p .links) (now (links .entry)) (now (usable .entry))) (problemOf p (now (kept .entry)) (now (scaled .entry))) k (now (work .entry)) ⌝ }
+    ensures is { λ _. ⌜ now (work .exit) ≡ column (netIn p (now (links .entry)) (now (usable .entry))) (problemOf p (now (kept .entry)) (now (scaled .entry))) k (now (work .entry)) ⌝ }
     ensures told { λ r. ⌜ (r ≡ false → Same changed (now (work .entry)) (now (work .exit))) ⌝ }
 {
     let mut any = changed;
@@ -45,7 +44,7 @@ fn round(
 ) -> bool
     requires { ⌜ Sound p (now links) (now usable) (now kept) ⌝ }
     requires { ⌜ 16384 ≤ length (now work) ⌝ }
-    ensures is { λ _. ⌜ now (work .exit) ≡ round (netOf (p .nodes) (p .links) (now (links .entry)) (now (usable .entry))) (problemOf p (now (kept .entry)) (now (scaled .entry))) (now (work .entry)) ⌝ }
+    ensures is { λ _. ⌜ now (work .exit) ≡ round (netIn p (now (links .entry)) (now (usable .entry))) (problemOf p (now (kept .entry)) (now (scaled .entry))) (now (work .entry)) ⌝ }
     ensures told { λ r. ⌜ (r ≡ false → now (work .entry) ≡ now (work .exit)) ⌝ }
 {
     let mut any = false;
@@ -66,7 +65,7 @@ pub fn rounds(
 )
     requires { ⌜ Sound p (now links) (now usable) (now kept) ⌝ }
     requires { ⌜ 16384 ≤ length (now work) ⌝ }
-    ensures { λ _. ⌜ now (work .exit) ≡ rounds (netOf (p .nodes) (p .links) (now (links .entry)) (now (usable .entry))) (problemOf p (now (kept .entry)) (now (scaled .entry))) (now (work .entry)) ⌝ }
+    ensures { λ _. ⌜ now (work .exit) ≡ rounds (netIn p (now (links .entry)) (now (usable .entry))) (problemOf p (now (kept .entry)) (now (scaled .entry))) (now (work .entry)) ⌝ }
 {
     for _ in 0..p.nodes - 1 {
         if !round(work, links, usable, kept, scaled, p) {

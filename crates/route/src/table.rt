@@ -1,12 +1,11 @@
 // The table d[v, k] in work memory: cell v * (x + 1) + k has its number at the word twice its place, and the link
 // by which v was reached at the next word.
 ghost use mathlib.Core.Path.{_≡_};
-ghost use mathlib.Core.Bool.{Bool, false};
+ghost use mathlib.Core.Bool.{false};
 ghost use Prim.Native.Nat.{_+_, _*_, _≤_, _<_};
 ghost use lib.ListN.{length};
-ghost use Rattle.network.specs.Words.{netOf};
 ghost use Rattle.ebf.specs.Table.{cell, cells, filled, improved, relaxed, offered};
-ghost use Rattle.route.specs.Solver.{Sound, problemOf, Hopped, Same};
+ghost use Rattle.route.specs.Solver.{Prepared, Sound, netIn, unflagged, problemOf, Hopped, Same};
 use crate::Hop;
 use crate::Reduced;
 use network::link;
@@ -85,15 +84,8 @@ fn improve(
 }
 
 // What a relaxation reads of link `i`.
-fn read_hop(
-    links: &[u32],
-    usable: &[u32],
-    kept: &[u32; 256],
-    scaled: &[u32; 256],
-    p: Reduced,
-    i: usize,
-) -> Hop
-    requires { ⌜ Sound p (now links) (now usable) (now kept) ⌝ }
+fn read_hop(links: &[u32], kept: &[u32; 256], scaled: &[u32; 256], p: Reduced, i: usize) -> Hop
+    requires { ⌜ Prepared p (now links) (now kept) ⌝ }
     requires { ⌜ i < p .links ⌝ }
     ensures { λ h. ⌜ Hopped (now (links .entry)) (now (kept .entry)) (now (scaled .entry)) i h ⌝ }
 {
@@ -109,7 +101,6 @@ fn read_hop(
 fn relax(
     work: &mut [u32],
     links: &[u32],
-    usable: &[u32],
     kept: &[u32; 256],
     scaled: &[u32; 256],
     p: Reduced,
@@ -117,13 +108,13 @@ fn relax(
     i: usize,
     changed: bool,
 ) -> bool
-    requires { ⌜ Sound p (now links) (now usable) (now kept) ⌝ }
+    requires { ⌜ Prepared p (now links) (now kept) ⌝ }
     requires { ⌜ 16384 ≤ length (now work) ⌝ }
     requires { ⌜ (k ≤ p .x) × (i < p .links) ⌝ }
-    ensures is { λ _. ⌜ now (work .exit) ≡ relaxed (netOf (p .nodes) (p .links) (now (links .entry)) (now (usable .entry))) (problemOf p (now (kept .entry)) (now (scaled .entry))) k i (now (work .entry)) ⌝ }
+    ensures is { λ _. ⌜ now (work .exit) ≡ relaxed (unflagged p (now (links .entry))) (problemOf p (now (kept .entry)) (now (scaled .entry))) k i (now (work .entry)) ⌝ }
     ensures told { λ r. ⌜ (r ≡ false → Same changed (now (work .entry)) (now (work .exit))) ⌝ }
 {
-    let h = read_hop(links, usable, kept, scaled, p, i);
+    let h = read_hop(links, kept, scaled, p, i);
     if p.x - k < h.step {
         return changed;
     }
@@ -154,11 +145,11 @@ pub fn offer(
     requires { ⌜ Sound p (now links) (now usable) (now kept) ⌝ }
     requires { ⌜ 16384 ≤ length (now work) ⌝ }
     requires { ⌜ (k ≤ p .x) × (i < p .links) ⌝ }
-    ensures is { λ _. ⌜ now (work .exit) ≡ offered (netOf (p .nodes) (p .links) (now (links .entry)) (now (usable .entry))) (problemOf p (now (kept .entry)) (now (scaled .entry))) k i (now (work .entry)) ⌝ }
+    ensures is { λ _. ⌜ now (work .exit) ≡ offered (netIn p (now (links .entry)) (now (usable .entry))) (problemOf p (now (kept .entry)) (now (scaled .entry))) k i (now (work .entry)) ⌝ }
     ensures told { λ r. ⌜ (r ≡ false → Same changed (now (work .entry)) (now (work .exit))) ⌝ }
 {
     if usable[i] != 1 {
         return changed;
     }
-    relax(work, links, usable, kept, scaled, p, k, i, changed)
+    relax(work, links, kept, scaled, p, k, i, changed)
 }

@@ -2,12 +2,12 @@
 // cuts the loops that links of no weight may leave.
 ghost use mathlib.Core.Path.{_≡_};
 ghost use Prim.Native.Nat.{_≤_, _<_};
-ghost use lib.ListN.{length, replicate};
-ghost use Rattle.network.specs.Words.{netOf};
+ghost use lib.ListN.{length};
 ghost use Rattle.network.specs.Cut.{noted};
 ghost use Rattle.ebf.specs.Table.{cell, linkAt};
-ghost use Rattle.ebf.specs.Trace.{trailBack, stepBack, traced};
-ghost use Rattle.route.specs.Solver.{Sound, problemOf, OnTable};
+ghost use Rattle.ebf.specs.Trace.{stepBack, traced};
+ghost use Rattle.route.specs.Ready.{Links};
+ghost use Rattle.route.specs.Solver.{unflagged, scaledOnly, OnTable};
 use crate::Reduced;
 use crate::table::cell;
 use crate::table::cells;
@@ -43,18 +43,16 @@ fn note(next: &mut [u32; 32], left: u32, v: usize, i: usize)
 fn step_back(
     work: &[u32],
     links: &[u32],
-    usable: &[u32],
-    kept: &[u32; 256],
     scaled: &[u32; 256],
     p: Reduced,
     s: usize,
     next: &mut [u32; 32],
     w: Trail,
 ) -> Trail
-    requires { ⌜ Sound p (now links) (now usable) (now kept) ⌝ }
-    requires { ⌜ 16384 ≤ length (now work) ⌝ }
+    requires { ⌜ Links (p .nodes) (p .links) (now links) ⌝ }
+    requires { ⌜ (p .x ≤ 248) × (16384 ≤ length (now work)) ⌝ }
     requires { ⌜ OnTable p w ⌝ }
-    ensures is { λ r. ⌜ (r, now (next .exit)) ≡ stepBack (netOf (p .nodes) (p .links) (now (links .entry)) (now (usable .entry))) (problemOf p (now (kept .entry)) (now (scaled .entry))) (now (work .entry)) s (w, now (next .entry)) ⌝ }
+    ensures is { λ r. ⌜ (r, now (next .exit)) ≡ stepBack (unflagged p (now (links .entry))) (scaledOnly p (now (scaled .entry))) (now (work .entry)) s (w, now (next .entry)) ⌝ }
     ensures stays { λ r. ⌜ OnTable p r ⌝ }
 {
     if w.node == s {
@@ -81,17 +79,15 @@ fn step_back(
 pub fn trace(
     work: &[u32],
     links: &[u32],
-    usable: &[u32],
-    kept: &[u32; 256],
     scaled: &[u32; 256],
     p: Reduced,
     s: usize,
     t: usize,
 ) -> [u32; 32]
-    requires { ⌜ Sound p (now links) (now usable) (now kept) ⌝ }
-    requires { ⌜ 16384 ≤ length (now work) ⌝ }
+    requires { ⌜ Links (p .nodes) (p .links) (now links) ⌝ }
+    requires { ⌜ (p .x ≤ 248) × (16384 ≤ length (now work)) ⌝ }
     requires { ⌜ t < 32 ⌝ }
-    ensures { λ r. ⌜ r ≡ traced (netOf (p .nodes) (p .links) (now (links .entry)) (now (usable .entry))) (problemOf p (now (kept .entry)) (now (scaled .entry))) (now (work .entry)) s t .1 ⌝ }
+    ensures { λ r. ⌜ r ≡ traced (unflagged p (now (links .entry))) (scaledOnly p (now (scaled .entry))) (now (work .entry)) s t .1 ⌝ }
 {
     let mut next: [u32; 32] = [0; 32];
     let mut w = Trail {
@@ -103,7 +99,7 @@ pub fn trace(
         if w.node == s {
             return next;
         }
-        w = step_back(work, links, usable, kept, scaled, p, s, &mut next, w);
+        w = step_back(work, links, scaled, p, s, &mut next, w);
     }
     next
 }

@@ -1,6 +1,6 @@
 // The links' weights, prepared once: the rounds divide nothing.
 ghost use mathlib.Core.Path.{_≡_};
-ghost use Prim.Native.Nat.{ℕ, _+_, _*_, _≤_, _<_};
+ghost use Prim.Native.Nat.{ℕ, _*_, _≤_, _<_};
 ghost use lib.ListN.{length, getD};
 ghost use Rattle.network.specs.Words.{field};
 ghost use Rattle.network.specs.Scale.{scaled};

@@ -1,6 +1,6 @@
 -- The words of nets A and B are those of four links between four nodes, and the requests' numbers are in their ranges.
 -- Assumes nothing.
-use Prim.Native.Nat.{ℕ, zero, suc, _≤_, _<_}
+use Prim.Native.Nat.{ℕ, zero, suc, _<_}
 use mathlib.Core.Path.{_≡_, refl}
 use mathlib.Core.Bool.{Bool, true, _&&_, and-eq-true-iff}
 use mathlib.Core.List.{List, [], _∷_}
@@ -9,7 +9,6 @@ use lib.Dec.{leb, ltb}
 use lib.ListN.{length}
 use borrow.Author.Tests.{ltb-true, leb-true}
 use Rattle.network.specs.Words.{field, LinkWords}
-use Rattle.search_nets.specs.Asked.{Asked}
 
 -- link i's four fields are in their ranges
 abbrev inRange : List ℕ → ℕ → Bool

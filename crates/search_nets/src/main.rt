@@ -1,8 +1,6 @@
 // Runs the search on document 01's nets A and B and prints a line for each request from node 0 to node 3: problem,
 // delay, cost and links; 9 where there is no path, 10 where there is no solution. Work memory starts as rubbish and
 // is handed from one search to the next; the path buffer starts as 31 times 99, so a word that is not 99 was written.
-ghost use mathlib.Core.Path.{_≡_};
-ghost use Prim.Native.Nat.{_≤_, _<_};
 ghost use Rattle.network.specs.Words.{LinkWords};
 ghost use Rattle.search_nets.specs.Asked.{Asked};
 use network::Request;

@@ -1,8 +1,6 @@
 -- `route::search` meets its contract: no path where the distance is not below n, else both problems at x.
 -- Assumes nothing.
-use mathlib.Core.Path.{_≡_, refl, ap, _∙_}
-use mathlib.Core.List.{List}
-use Prim.Native.Nat.{ℕ}
+use mathlib.Core.Path.{ap, _∙_}
 use native.Mathlib.Omega.{arith}
 use Rattle.network.specs.Reduce.{Outcome}
 use Rattle.route.specs.Answers.{answerOf, pathAfter}

@@ -18,8 +18,8 @@ search-requires c κs =
         nodes-most = search needs;
         links-most = search needs;
         words = start .pre .0;
-        flags = search needs;
       };
+      flags = search needs;
       memory = search needs;
       buffer = lit≤ tt;
       source = search needs;

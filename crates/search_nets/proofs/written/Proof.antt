@@ -1,7 +1,6 @@
 -- `search_nets::written` ends and reads within the buffer.
 -- Assumes nothing.
 use Prim.Native.Nat.{_-_, _≤_}
-use native.Mathlib.Omega.{arith}
 use borrow.Author.Needs.{needs}
 use Rattle.search_nets.proofs.written.Statement.{statement}
 use Rattle.search_nets.proofs.written.Tie as tie

@@ -1,8 +1,11 @@
 -- `route::attempt::attempt` meets its contract: the table is the model's, and with it the answer.
 -- Assumes nothing.
-use mathlib.Core.Path.{_≡_, refl, _∙_}
-use native.Mathlib.Omega.{arith}
+use mathlib.Core.Path.{ap, _∙_}
+use mathlib.Core.List.{List}
+use Prim.Native.Nat.{ℕ}
+use Rattle.ebf.specs.declared.Trail.{Trail}
 use Rattle.route.proofs.Outcomes.{table-is, answers-none, leaves-path, answers-path, writes-path}
+use Rattle.route.proofs.Unflagged.{traced-unflagged, forwarded-unflagged}
 use borrow.Author.Needs.{needs}
 use Rattle.route.proofs.attempt.attempt.Statement.{statement}
 use Rattle.route.proofs.attempt.attempt.Tie as tie
@@ -39,13 +42,13 @@ returns c =
     )
 
 trace-requires : tie.Need-trace-requires
-trace-requires c κs = search needs
+trace-requires c κs = (search needs, (search needs, search needs))
 
 forward-requires : tie.Need-forward-requires
 forward-requires c κs =
     let start = c .before .before .before .before .before .before .before .before .before .before .before .before .before .before .before .before .before .before .before .before in
     let more = start .pre .1 .1 in
-    (start .pre .0 .table, (start .pre .1 .0, (more .1, more .2)))
+    (start .pre .0 .prepared .table, (start .pre .1 .0, (more .1, more .2)))
 
 cast-t24 : tie.Need-cast-t24
 cast-t24 c = search needs
@@ -62,8 +65,8 @@ returns-2 c =
     let more = start .pre .1 .1 in
     let table = table-is _ _ _ _ _ _ _ (start .pre .0) (more .2) (more .3) _ (more .0) (c .before .before .before .before .before .before .before .before .before .before .before .before .before .before .before .before .before .before .initialise .ensures) (c .before .before .before .before .before .before .before .before .before .before .before .before .before .before .rounds .ensures) in
     let near = rw (c .before .before .before .before .before .before .before .before .before .before .before .cell .ensures .0) at (c .before .before .before .before .before .before .before .before .if1 .left) in
-    let pass = c .before .before .before .forward .ensures .0 in
-    let notes = c .before .before .before .before .before .before .trace .ensures in (
+    let pass = c .before .before .before .forward .ensures .0 ∙ forwarded-unflagged _ _ _ _ _ _ _ _ in
+    let notes = c .before .before .before .before .before .before .trace .ensures ∙ ap (λ (z : Trail × List ℕ). z .1) (traced-unflagged _ _ _ _ _ _ _ _) in (
       answers-path _ _ _ _ _ _ _ (start .pre .0) (more .2) (more .3) _ (more .0) table near notes _ pass _,
       writes-path _ _ _ _ _ _ _ (start .pre .0) (more .2) (more .3) _ (more .0) table near notes _ pass _ (more .1),
     )

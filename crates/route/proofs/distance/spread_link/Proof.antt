@@ -27,7 +27,7 @@ wide-requires c κs = search needs
 contains-requires : tie.Need-contains-requires
 contains-requires c κs =
     let start = c .before .before .before .before .before .before in
-    omega (arith, start .pre .0 .words .from (start .args .i) (start .pre .1))
+    omega (arith, start .pre .0 .words .from (start .args .i) (start .pre .1 .1))
 
 returns-2 : tie.Need-returns-2
 unfolding netOf
@@ -48,7 +48,7 @@ wide-requires-2 c κs = search needs
 insert-requires : tie.Need-insert-requires
 insert-requires c κs =
     let start = c .before .before .before .before .before .before .before .before .before .before in
-    omega (arith, start .pre .0 .words .to (start .args .i) (start .pre .1))
+    omega (arith, start .pre .0 .words .to (start .args .i) (start .pre .1 .1))
 
 returns-3 : tie.Need-returns-3
 unfolding netOf

@@ -7,7 +7,7 @@ use Rattle.route.proofs.path.advance.Statement.{statement}
 use Rattle.route.proofs.path.advance.Tie as tie
 
 returns : tie.Need-returns
-returns c = (advance-home _ _ _ _ _ _ _ _ (c .if1 .taken), search needs)
+returns c = (advance-home _ _ _ _ _ _ _ (c .if1 .taken), search needs)
 
 mul-wide : tie.Need-mul-wide
 mul-wide c = search needs
@@ -19,7 +19,7 @@ wide-requires : tie.Need-wide-requires
 wide-requires c κs = search needs
 
 returns-2 : tie.Need-returns-2
-returns-2 c = (advance-unlisted _ _ _ _ _ _ _ _ _ (λ e. omega arith) (c .before .wide .ensures) (omega arith), search needs)
+returns-2 c = (advance-unlisted _ _ _ _ _ _ _ _ (λ e. omega arith) (c .before .wide .ensures) (omega arith), search needs)
 
 mul-path : tie.Need-mul-path
 mul-path c = search needs
@@ -39,35 +39,35 @@ word-requires c κs = search needs
 wide-requires-2 : tie.Need-wide-requires-2
 wide-requires-2 c κs = search needs
 
-add-t22 : tie.Need-add-t22
-add-t22 c = search needs
+add-t21 : tie.Need-add-t21
+add-t21 c = search needs
 
-mul-t24 : tie.Need-mul-t24
-mul-t24 c = search needs
+mul-t23 : tie.Need-mul-t23
+mul-t23 c = search needs
 
-element-copy-out-t27 : tie.Need-element-copy-out-t27
-element-copy-out-t27 c = search needs
+element-copy-out-t26 : tie.Need-element-copy-out-t26
+element-copy-out-t26 c = search needs
 
-add-t28 : tie.Need-add-t28
-add-t28 c =
+add-t27 : tie.Need-add-t27
+add-t27 c =
     let listed = c .before .before .before .before .before .before in
     let link = listed .before in
-    let start = link .before .before .before .before .before .before .before in
+    let start = link .before .before .before .before .before .before in
     let way = start .pre .1 .1 in
     let i = link .wide .result in
     omega (arith, start .pre .1 .0 .delays i, start .pre .0 .words .delay i (listed .if2 .left), way)
 
-mul-t29 : tie.Need-mul-t29
-mul-t29 c = search needs
+mul-t28 : tie.Need-mul-t28
+mul-t28 c = search needs
 
-element-copy-out-t32 : tie.Need-element-copy-out-t32
-element-copy-out-t32 c = search needs
+element-copy-out-t31 : tie.Need-element-copy-out-t31
+element-copy-out-t31 c = search needs
 
-add-t33 : tie.Need-add-t33
-add-t33 c =
+add-t32 : tie.Need-add-t32
+add-t32 c =
     let listed = c .before .before .before .before .before .before .before .before in
     let link = listed .before in
-    let start = link .before .before .before .before .before .before .before in
+    let start = link .before .before .before .before .before .before in
     let way = start .pre .1 .1 in
     let i = link .wide .result in
     omega (arith, start .pre .1 .0 .costs i, start .pre .0 .words .cost i (listed .if2 .left), way)
@@ -79,12 +79,12 @@ returns-3 : tie.Need-returns-3
 returns-3 c =
     let listed = c .before .before .before .before .before .before .before .before in
     let link = listed .before in
-    let start = link .before .before .before .before .before .before .before in
+    let start = link .before .before .before .before .before .before in
     let way = start .pre .1 .1 in
     let i = link .wide .result in
     let columns = start .pre .1 .0 in
     let words = start .pre .0 .words in (
-      advance-on _ _ _ _ _ _ _ _ _ (λ e. omega arith) (link .wide .ensures) _ _ _ (listed .if2 .left) (omega arith) (columns .delays i) (columns .costs i),
+      advance-on _ _ _ _ _ _ _ _ (λ e. omega arith) (link .wide .ensures) _ _ _ (listed .if2 .left) (omega arith) (columns .delays i) (columns .costs i),
       record {
         node = omega (arith, words .to i (listed .if2 .left));
         links = omega arith;
@@ -108,12 +108,12 @@ advance-spec =
     slice-write-path
     word-requires
     wide-requires-2
-    add-t22
-    mul-t24
-    element-copy-out-t27
-    add-t28
-    mul-t29
-    element-copy-out-t32
-    add-t33
+    add-t21
+    mul-t23
+    element-copy-out-t26
+    add-t27
+    mul-t28
+    element-copy-out-t31
+    add-t32
     same-length
     returns-3)

@@ -1,7 +1,7 @@
 -- `route::problems::both_problems` meets its contract: the columns are the network's weights, and the first answer
 -- stands unless it is no solution.
 -- Assumes nothing.
-use mathlib.Core.Path.{_≡_, refl, sym, _∙_}
+use mathlib.Core.Path.{refl, sym, _∙_}
 use native.Mathlib.Omega.{arith}
 use denote.Enum.Declared.{tagOf}
 use Rattle.route.proofs.Answer.{the-type}
@@ -46,10 +46,13 @@ attempt-requires c κs =
     let from = c .before .before .before .before .before .before .before .before .before .before .before .wide .ensures in
     let to = c .before .before .before .before .before .before .before .before .before .before .wide2 .ensures in (
       record {
-        table = ready .table;
-        x = start .pre .1;
-        bound = ready .delay-most;
-        weight = λ i l. column-light _ links (words .whole) 2 (c .before .before .before .before .before .before .before .before .before .column .result) delays (words .delay) i;
+        prepared = record {
+          table = ready .table;
+          x = start .pre .1;
+          bound = ready .delay-most;
+          weight = λ i l. column-light _ links (words .whole) 2 (c .before .before .before .before .before .before .before .before .before .column .result) delays (words .delay) i;
+        };
+        flags = ready .flags;
       },
       (
         record { delays = delays; costs = costs },
@@ -107,10 +110,13 @@ attempt-requires-2 c κs =
     let from = c .before .before .before .before .before .before .before .before .before .before .before .before .before .before .before .before .before .before .before .before .before .before .before .before .before .before .wide .ensures in
     let to = c .before .before .before .before .before .before .before .before .before .before .before .before .before .before .before .before .before .before .before .before .before .before .before .before .before .wide2 .ensures in (
       record {
-        table = ready .table;
-        x = start .pre .1;
-        bound = ready .cost-most;
-        weight = λ i l. column-light _ links (words .whole) 3 (c .before .before .before .before .before .before .before .before .before .before .before .before .before .before .before .before .before .before .before .before .before .before .before .column2 .result) costs (words .cost) i;
+        prepared = record {
+          table = ready .table;
+          x = start .pre .1;
+          bound = ready .cost-most;
+          weight = λ i l. column-light _ links (words .whole) 3 (c .before .before .before .before .before .before .before .before .before .before .before .before .before .before .before .before .before .before .before .before .before .before .before .column2 .result) costs (words .cost) i;
+        };
+        flags = ready .flags;
       },
       (
         record { delays = delays; costs = costs },

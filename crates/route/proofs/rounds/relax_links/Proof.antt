@@ -9,7 +9,7 @@ use Rattle.network.specs.Loops.{iter}
 use Rattle.network.specs.Words.{netOf}
 use Rattle.network.proofs.Loops.{iter-none, iter-more, iter-done}
 use Rattle.ebf.specs.Table.{offered, column}
-use Rattle.route.specs.Solver.{problemOf, Same}
+use Rattle.route.specs.Solver.{netIn, problemOf, Same}
 use Rattle.route.proofs.Steps.{told-on, told-chain}
 use borrow.Author.Needs.{needs}
 use Rattle.route.proofs.rounds.relax_links.Statement.{statement}
@@ -17,7 +17,7 @@ use Rattle.route.proofs.rounds.relax_links.Tie as tie
 
 abbrev Inv-loop : tie.InvT-loop
 Inv-loop work₀ links usable kept scaled p k changed any₀ i₀ i-end work any i =
-    (work ≡ iter (offered (netOf (p .nodes) (p .links) links usable) (problemOf p kept scaled) k) i work₀)
+    (work ≡ iter (offered (netIn p links usable) (problemOf p kept scaled) k) i work₀)
     × (length work ≡ length work₀) × (i ≤ i-end) × (any ≡ false → Same changed work₀ work)
 
 abbrev μ-loop : tie.MeasureT-loop

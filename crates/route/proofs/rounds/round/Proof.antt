@@ -6,17 +6,16 @@ use Prim.Native.Nat.{_-_, _≤_}
 use native.Mathlib.Omega.{arith}
 use lib.ListN.{length}
 use Rattle.network.specs.Loops.{iter}
-use Rattle.network.specs.Words.{netOf}
 use Rattle.network.proofs.Loops.{iter-none, iter-more, iter-done}
 use Rattle.ebf.specs.Table.{column, round}
-use Rattle.route.specs.Solver.{problemOf, Same}
+use Rattle.route.specs.Solver.{netIn, problemOf}
 use borrow.Author.Needs.{needs}
 use Rattle.route.proofs.rounds.round.Statement.{statement}
 use Rattle.route.proofs.rounds.round.Tie as tie
 
 abbrev Inv-loop : tie.InvT-loop
 Inv-loop work₀ links usable kept scaled p any₀ k₀ k-end work any k =
-    (work ≡ iter (column (netOf (p .nodes) (p .links) links usable) (problemOf p kept scaled)) k work₀)
+    (work ≡ iter (column (netIn p links usable) (problemOf p kept scaled)) k work₀)
     × (length work ≡ length work₀) × (k ≤ k-end) × (any ≡ false → work₀ ≡ work)
 
 abbrev μ-loop : tie.MeasureT-loop

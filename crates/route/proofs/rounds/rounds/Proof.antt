@@ -9,14 +9,14 @@ use Rattle.network.specs.Loops.{iter}
 use Rattle.network.specs.Words.{netOf}
 use Rattle.network.proofs.Loops.{iter-none, iter-more, iter-done, iter-settled}
 use Rattle.ebf.specs.Table.{round, rounds}
-use Rattle.route.specs.Solver.{problemOf}
+use Rattle.route.specs.Solver.{netIn, problemOf}
 use borrow.Author.Needs.{needs}
 use Rattle.route.proofs.rounds.rounds.Statement.{statement}
 use Rattle.route.proofs.rounds.rounds.Tie as tie
 
 abbrev Inv-loop : tie.InvT-loop
 Inv-loop work₀ links usable kept scaled p counter₀ end work counter =
-    (work ≡ iter (λ _. round (netOf (p .nodes) (p .links) links usable) (problemOf p kept scaled)) counter work₀)
+    (work ≡ iter (λ _. round (netIn p links usable) (problemOf p kept scaled)) counter work₀)
     × (length work ≡ length work₀) × (counter ≤ end)
 
 abbrev μ-loop : tie.MeasureT-loop

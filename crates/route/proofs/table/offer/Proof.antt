@@ -1,7 +1,8 @@
--- `route::table::offer` meets its contract: a link is tried where its flag is 1.
+-- `route::table::offer` meets its contract: a link is tried where its flag is 1, and `relax` asks for no flag.
 -- Assumes nothing.
 use mathlib.Core.Path.{_∙_}
 use Rattle.route.proofs.Steps.{offered-unusable, offered-usable, flag-on, flag-off, told-on}
+use Rattle.route.proofs.Unflagged.{relaxed-unflagged}
 use borrow.Author.Needs.{needs}
 use Rattle.route.proofs.table.offer.Statement.{statement}
 use Rattle.route.proofs.table.offer.Tie as tie
@@ -23,7 +24,7 @@ same-length c = search needs
 
 returns-2 : tie.Need-returns-2
 returns-2 c = let done = c .before .before .relax .ensures in
-    (done .0 ∙ offered-usable _ _ _ _ _ (flag-on _ _ _ _ _ (c .before .before .before .before .if1 .left)), done .1)
+    (done .0 ∙ relaxed-unflagged _ _ _ _ _ _ _ _ ∙ offered-usable _ _ _ _ _ (flag-on _ _ _ _ _ (c .before .before .before .before .if1 .left)), done .1)
 
 pub offer-spec : {M : Type 1} → statement M
 offer-spec =

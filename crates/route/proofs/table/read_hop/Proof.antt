@@ -17,11 +17,11 @@ word-requires-2 c κs = search needs
 wide-requires-2 : tie.Need-wide-requires-2
 wide-requires-2 c κs = search needs
 
-mul-t11 : tie.Need-mul-t11
-mul-t11 c = search needs
+mul-t10 : tie.Need-mul-t10
+mul-t10 c = search needs
 
-element-copy-out-t14 : tie.Need-element-copy-out-t14
-element-copy-out-t14 c = search needs
+element-copy-out-t13 : tie.Need-element-copy-out-t13
+element-copy-out-t13 c = search needs
 
 mul-wide : tie.Need-mul-wide
 mul-wide c = search needs
@@ -34,16 +34,16 @@ wide-requires-3 c κs = search needs
 
 returns : tie.Need-returns
 returns c =
-    let start = c .before .before .before .before .before .before .before .before .before in
-    let sound = start .pre .0 in
+    let start = c .before .before .before .before .before .before .before .before in
+    let prepared = start .pre .0 in
     record {
       tail = search needs;
       head = search needs;
       weight = search needs;
       step = search needs;
-      tail-low = omega (arith, sound .table .words .from (start .args .i) (start .pre .1));
-      head-low = omega (arith, sound .table .words .to (start .args .i) (start .pre .1));
-      light = sound .weight (start .args .i) (start .pre .1);
+      tail-low = omega (arith, prepared .table .words .from (start .args .i) (start .pre .1));
+      head-low = omega (arith, prepared .table .words .to (start .args .i) (start .pre .1));
+      light = prepared .weight (start .args .i) (start .pre .1);
     }
 
 pub read-hop-spec : {M : Type 1} → statement M
@@ -54,8 +54,8 @@ read-hop-spec =
     wide-requires
     word-requires-2
     wide-requires-2
-    mul-t11
-    element-copy-out-t14
+    mul-t10
+    element-copy-out-t13
     mul-wide
     element-copy-out-wide
     wide-requires-3

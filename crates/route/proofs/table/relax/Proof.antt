@@ -13,7 +13,7 @@ sub-if1 : tie.Need-sub-if1
 sub-if1 c = search needs
 
 returns : tie.Need-returns
-returns c = (hop-over _ _ _ _ _ _ _ _ _ (c .before .before .before .read-hop .ensures) (omega arith) (omega arith), told-on _ _)
+returns c = (hop-over _ _ _ _ _ _ _ _ (c .before .before .before .read-hop .ensures) (omega arith) (omega arith), told-on _ _)
 
 add-to : tie.Need-add-to
 add-to c = search needs
@@ -33,9 +33,9 @@ same-length c = search needs
 returns-2 : tie.Need-returns-2
 returns-2 c =
     let r = c .before .before .before .before .before .before .before .before .before .before .read-hop .ensures in
-    let low = c .before .before .before .before .before .before .before .before .before .before .before .before .before .before .pre .1 .1 .0 in
+    let low = c .before .before .before .before .before .before .before .before .before .before .before .before .before .pre .1 .1 .0 in
     let done = c .before .before .improve .ensures in (
-      hop-within _ _ _ _ _ _ _ _ _ r low (c .before .before .before .before .before .before .before .if1 .left) (c .before .before .before .before .cell .ensures .0) (c .before .before .before .cell2 .ensures .0) (done .0),
+      hop-within _ _ _ _ _ _ _ _ r low (c .before .before .before .before .before .before .before .if1 .left) (c .before .before .before .before .cell .ensures .0) (c .before .before .before .cell2 .ensures .0) (done .0),
       done .1,
     )
 

@@ -16,7 +16,7 @@ kept-link-requires c κs = search needs
 returns-2 : tie.Need-returns-2
 returns-2 c =
     let k = c .before .before .kept-link in
-    (stays-unlisted _ _ _ _ _ _ _ _ _ _ (λ e. omega arith) (k .ensures) (omega arith), search needs)
+    (stays-unlisted _ _ _ _ _ _ _ _ (λ e. omega arith) (k .ensures) (omega arith), search needs)
 
 mul-wide : tie.Need-mul-wide
 mul-wide c = search needs
@@ -31,7 +31,7 @@ returns-3 : tie.Need-returns-3
 returns-3 c =
     let step = c .before .before .wide in
     let k = c .before .before .before .before .before .before .kept-link in
-    (stays-spent _ _ _ _ _ _ _ _ _ _ (λ e. omega arith) (k .ensures) (omega arith) _ (step .ensures) (omega arith), search needs)
+    (stays-spent _ _ _ _ _ _ _ _ (λ e. omega arith) (k .ensures) (omega arith) _ (step .ensures) (omega arith), search needs)
 
 word-requires : tie.Need-word-requires
 word-requires c κs = search needs
@@ -43,15 +43,15 @@ note-requires : tie.Need-note-requires
 note-requires c κs =
     let listed = c .before .before .before .before .before .before .before in
     let link = listed .before .before in
-    let start = link .before .before .before .before .before .before in
-    omega (arith, start .pre .0 .table .words .from (link .kept-link .result) (listed .if2 .left))
+    let start = link .before .before .before .before .before in
+    omega (arith, start .pre .0 .words .from (link .kept-link .result) (listed .if2 .left))
 
 insert-requires : tie.Need-insert-requires
 insert-requires c κs =
     let listed = c .before .before .before .before .before .before .before .before .before in
     let link = listed .before .before in
-    let start = link .before .before .before .before .before .before in
-    omega (arith, start .pre .0 .table .words .from (link .kept-link .result) (listed .if2 .left), start .pre .0 .table .nodes-most)
+    let start = link .before .before .before .before .before in
+    omega (arith, start .pre .0 .words .from (link .kept-link .result) (listed .if2 .left), start .pre .0 .nodes-most)
 
 returns-4 : tie.Need-returns-4
 returns-4 c =
@@ -59,13 +59,13 @@ returns-4 c =
     let step = tail .before .before .before .before in
     let listed = step .before .before in
     let link = listed .before .before in
-    let start = link .before .before .before .before .before .before in (
-      goes-back _ _ _ _ _ _ _ _ _ _ (λ e. omega arith) (link .kept-link .ensures) (omega arith) _ (step .wide .ensures) _ _ _ (omega arith)
+    let start = link .before .before .before .before .before in (
+      goes-back _ _ _ _ _ _ _ _ (λ e. omega arith) (link .kept-link .ensures) (omega arith) _ (step .wide .ensures) _ _ _ (omega arith)
           (omega arith)
           (c .insert .ensures)
           (c .before .before .note .ensures),
       record {
-        node = omega (arith, start .pre .0 .table .words .from (link .kept-link .result) (listed .if2 .left), start .pre .0 .table .nodes-most);
+        node = omega (arith, start .pre .0 .words .from (link .kept-link .result) (listed .if2 .left), start .pre .0 .nodes-most);
         column = omega arith;
       },
     )

@@ -11,17 +11,17 @@ use Rattle.network.specs.Words.{netOf}
 use Rattle.network.proofs.Loops.{iter-none, iter-more, iter-done, iter-stays}
 use Rattle.ebf.specs.declared.Trail.{Trail}
 use Rattle.ebf.specs.Trace.{stepBack, traced}
-use Rattle.route.specs.Solver.{problemOf, OnTable}
+use Rattle.route.specs.Solver.{problemOf, unflagged, scaledOnly, OnTable}
 use Rattle.route.proofs.Turn.{stays-home}
 use Rattle.route.proofs.trace.trace.Statement.{statement}
 use Rattle.route.proofs.trace.trace.Tie as tie
 
 abbrev Inv-loop : tie.InvT-loop
-Inv-loop work links usable kept scaled p s t next₀ w₀ counter₀ end next w counter =
-    ((w, next) ≡ iter (λ _. stepBack (netOf (p .nodes) (p .links) links usable) (problemOf p kept scaled) work s) counter (w₀, next₀)) × (counter ≤ end) × OnTable p w
+Inv-loop work links scaled p s t next₀ w₀ counter₀ end next w counter =
+    ((w, next) ≡ iter (λ _. stepBack (unflagged p links) (scaledOnly p scaled) work s) counter (w₀, next₀)) × (counter ≤ end) × OnTable p w
 
 abbrev μ-loop : tie.MeasureT-loop
-μ-loop work links usable kept scaled p s t next₀ w₀ counter₀ end next w counter = end - counter
+μ-loop work links scaled p s t next₀ w₀ counter₀ end next w counter = end - counter
 
 cells-requires : tie.Need-cells-requires Inv-loop μ-loop
 cells-requires c κs = search needs
