@@ -1,5 +1,8 @@
 // The route search of document 01, the lower crate: a path within a delay bound and a cost bound by the extended
 // Bellman-Ford search, problem one and else problem two. Line numbers are those of the paper.
+//
+// Only `search` can be called from outside. What the functions below it require follows from what `search` requires,
+// and each caller shows it; what `search` requires, the upper crate's calls have checked before they search.
 ghost use mathlib.Core.Path.{_≡_};
 ghost use Rattle.network.specs.Words.{netOf};
 ghost use Rattle.ebf.specs.Search.{search};
