@@ -14,10 +14,10 @@ use borrow.Author.Tests.{lt-ltb, le-ltb}
 use Rattle.network.specs.Net.{Net}
 use Rattle.network.specs.Problem.{Problem}
 use Rattle.network.specs.Scale.{scaled}
-use Rattle.network.specs.Words.{field, netOf}
+use Rattle.network.specs.Words.{field, netOf, LinkWords}
 use Rattle.network.specs.declared.Request.{Request}
 use Rattle.network.specs.Reduce.{delayBound, costBound, problemOne, problemTwo, Outcome, no-path}
-use Rattle.network.proofs.Tests.{by-lt}
+use Rattle.network.proofs.Tests.{by-eq, by-lt}
 use Rattle.ebf.specs.Distance.{distance}
 use Rattle.ebf.specs.Solve.{solve}
 use Rattle.ebf.specs.Search.{outcomeOf, orElse, tried, search}
@@ -37,6 +37,11 @@ module _ (m : ℕ) (links : List ℕ) (whole : length links ≡ 5 * m) (j : ℕ)
 
   pub column-light : ((i : ℕ) → i < m → field links i j ≤ 1000000) → (i : ℕ) → getD column i 0 ≤ 1000000
   column-light light i = by-lt i m (λ l. omega (arith, holds i, light i l)) (λ l. omega (arith, column-past i l))
+
+-- either weight is in its range, whichever word of a link it is
+pub weight-light : {n m : ℕ} {links : List ℕ} → LinkWords n m links → (j : ℕ) → 2 ≤ j → j ≤ 3 → (i : ℕ) → i < m → field links i j ≤ 1000000
+weight-light words j low high i l =
+    by-eq j 2 (λ e. rw e (words .delay i l)) (λ ne. let e : j ≡ 3 = omega arith in rw e (words .cost i l))
 
 -- ---- the problems
 abbrev pub reduced : ℕ → ℕ → ℕ → ℕ → Reduced

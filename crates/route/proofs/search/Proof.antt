@@ -31,7 +31,7 @@ mul-x : tie.Need-mul-x
 mul-x c = omega (arith, x-below (c .wide3 .result) (c .before .before .distance .result) (omega arith) (omega arith))
 
 both-problems-requires : tie.Need-both-problems-requires
-both-problems-requires c κs = (c .before .before .before .before .before .before .before .before .before .before .before .pre, x-below (c .before .before .wide3 .result) (c .before .before .before .before .distance .result) (omega arith) (omega arith))
+both-problems-requires c κs = (c .before .before .before .before .before .before .before .before .before .before .before .pre, omega (arith, x-below (c .before .before .wide3 .result) (c .before .before .before .before .distance .result) (omega arith) (omega arith), c .before .before .before .before .before .before .before .before .before .before .before .pre .table .nodes-most, c .before .before .before .if1 .left))
 
 same-length : tie.Need-same-length
 same-length c = search needs

@@ -55,7 +55,7 @@ add-t27 c =
     let start = link .before .before .before .before .before .before in
     let way = start .pre .1 .1 in
     let i = link .wide .result in
-    omega (arith, start .pre .1 .0 .delays i, start .pre .0 .words .delay i (listed .if2 .left), way)
+    omega (arith, start .pre .1 .0 .delays i, start .pre .1 .0 .costs i, start .pre .0 .words .delay i (listed .if2 .left), start .pre .0 .words .cost i (listed .if2 .left), way)
 
 mul-t28 : tie.Need-mul-t28
 mul-t28 c = search needs
@@ -70,7 +70,7 @@ add-t32 c =
     let start = link .before .before .before .before .before .before in
     let way = start .pre .1 .1 in
     let i = link .wide .result in
-    omega (arith, start .pre .1 .0 .costs i, start .pre .0 .words .cost i (listed .if2 .left), way)
+    omega (arith, start .pre .1 .0 .delays i, start .pre .1 .0 .costs i, start .pre .0 .words .delay i (listed .if2 .left), start .pre .0 .words .cost i (listed .if2 .left), way)
 
 same-length : tie.Need-same-length
 same-length c = search needs

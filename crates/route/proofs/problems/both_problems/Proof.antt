@@ -6,7 +6,7 @@ use native.Mathlib.Omega.{arith}
 use denote.Enum.Declared.{tagOf}
 use Rattle.route.proofs.Answer.{the-type}
 use Rattle.route.specs.Forward.{Columns}
-use Rattle.route.proofs.Reductions.{column-past, column-light, one-is, two-is, other-case, answers-first, writes-first, answers-second, writes-second}
+use Rattle.route.proofs.Reductions.{column-past, column-light, weight-light, one-is, two-is, other-case, answers-first, writes-first, answers-second, writes-second}
 use borrow.Author.Needs.{needs}
 use Rattle.route.proofs.problems.both_problems.Statement.{statement}
 use Rattle.route.proofs.problems.both_problems.Tie as tie
@@ -30,9 +30,16 @@ scaled-column-requires c κs =
     let words = ready .table .words in
     let links = start .args .links .now in
     let delays = c .before .before .column .ensures in
-    let costs = c .before .column2 .ensures in (
-      (ready .table .links-most, start .pre .1, ready .cost-some, ready .cost-most),
-      (column-light _ links (words .whole) 3 (c .before .column2 .result) costs (words .cost), column-past _ links (words .whole) 3 (c .before .column2 .result) costs),
+    let costs = c .before .column2 .ensures in
+    let light = column-light _ links (words .whole) _ (c .before .before .column .result) delays (weight-light words _ (omega arith) (omega arith)) in
+    let light2 = column-light _ links (words .whole) _ (c .before .column2 .result) costs (weight-light words _ (omega arith) (omega arith)) in (
+      (
+        ready .table .links-most,
+        start .pre .1,
+        omega (arith, ready .delay-some, ready .cost-some),
+        omega (arith, ready .delay-most, ready .cost-most),
+      ),
+      (λ i. omega (arith, light i, light2 i), λ i l. omega (arith, column-past _ links (words .whole) _ (c .before .before .column .result) delays i l, column-past _ links (words .whole) _ (c .before .column2 .result) costs i l)),
     )
 
 attempt-requires : tie.Need-attempt-requires
@@ -43,14 +50,16 @@ attempt-requires c κs =
     let links = start .args .links .now in
     let delays = c .before .before .before .before .before .before .before .before .before .column .ensures in
     let costs = c .before .before .before .before .before .before .before .before .column2 .ensures in
+    let light = column-light _ links (words .whole) _ (c .before .before .before .before .before .before .before .before .before .column .result) delays (weight-light words _ (omega arith) (omega arith)) in
+    let light2 = column-light _ links (words .whole) _ (c .before .before .before .before .before .before .before .before .column2 .result) costs (weight-light words _ (omega arith) (omega arith)) in
     let from = c .before .before .before .before .before .before .before .before .before .before .before .wide .ensures in
     let to = c .before .before .before .before .before .before .before .before .before .before .wide2 .ensures in (
       record {
         prepared = record {
           table = ready .table;
           x = start .pre .1;
-          bound = ready .delay-most;
-          weight = λ i l. column-light _ links (words .whole) 2 (c .before .before .before .before .before .before .before .before .before .column .result) delays (words .delay) i;
+          bound = omega (arith, ready .delay-most, ready .cost-most);
+          weight = λ i l. omega (arith, light i, light2 i);
         };
         flags = ready .flags;
       },
@@ -94,9 +103,16 @@ scaled-column-requires-2 c κs =
     let words = ready .table .words in
     let links = start .args .links .now in
     let delays = c .before .before .before .before .before .before .before .before .before .before .before .before .before .before .before .before .before .column .ensures in
-    let costs = c .before .before .before .before .before .before .before .before .before .before .before .before .before .before .before .before .column2 .ensures in (
-      (ready .table .links-most, start .pre .1, ready .delay-some, ready .delay-most),
-      (column-light _ links (words .whole) 2 (c .before .before .before .before .before .before .before .before .before .before .before .before .before .before .before .before .before .column .result) delays (words .delay), column-past _ links (words .whole) 2 (c .before .before .before .before .before .before .before .before .before .before .before .before .before .before .before .before .before .column .result) delays),
+    let costs = c .before .before .before .before .before .before .before .before .before .before .before .before .before .before .before .before .column2 .ensures in
+    let light = column-light _ links (words .whole) _ (c .before .before .before .before .before .before .before .before .before .before .before .before .before .before .before .before .before .column .result) delays (weight-light words _ (omega arith) (omega arith)) in
+    let light2 = column-light _ links (words .whole) _ (c .before .before .before .before .before .before .before .before .before .before .before .before .before .before .before .before .column2 .result) costs (weight-light words _ (omega arith) (omega arith)) in (
+      (
+        ready .table .links-most,
+        start .pre .1,
+        omega (arith, ready .delay-some, ready .cost-some),
+        omega (arith, ready .delay-most, ready .cost-most),
+      ),
+      (λ i. omega (arith, light i, light2 i), λ i l. omega (arith, column-past _ links (words .whole) _ (c .before .before .before .before .before .before .before .before .before .before .before .before .before .before .before .before .before .column .result) delays i l, column-past _ links (words .whole) _ (c .before .before .before .before .before .before .before .before .before .before .before .before .before .before .before .before .column2 .result) costs i l)),
     )
 
 attempt-requires-2 : tie.Need-attempt-requires-2
@@ -107,14 +123,16 @@ attempt-requires-2 c κs =
     let links = start .args .links .now in
     let delays = c .before .before .before .before .before .before .before .before .before .before .before .before .before .before .before .before .before .before .before .before .before .before .before .before .column .ensures in
     let costs = c .before .before .before .before .before .before .before .before .before .before .before .before .before .before .before .before .before .before .before .before .before .before .before .column2 .ensures in
+    let light = column-light _ links (words .whole) _ (c .before .before .before .before .before .before .before .before .before .before .before .before .before .before .before .before .before .before .before .before .before .before .before .before .column .result) delays (weight-light words _ (omega arith) (omega arith)) in
+    let light2 = column-light _ links (words .whole) _ (c .before .before .before .before .before .before .before .before .before .before .before .before .before .before .before .before .before .before .before .before .before .before .before .column2 .result) costs (weight-light words _ (omega arith) (omega arith)) in
     let from = c .before .before .before .before .before .before .before .before .before .before .before .before .before .before .before .before .before .before .before .before .before .before .before .before .before .before .wide .ensures in
     let to = c .before .before .before .before .before .before .before .before .before .before .before .before .before .before .before .before .before .before .before .before .before .before .before .before .before .wide2 .ensures in (
       record {
         prepared = record {
           table = ready .table;
           x = start .pre .1;
-          bound = ready .cost-most;
-          weight = λ i l. column-light _ links (words .whole) 3 (c .before .before .before .before .before .before .before .before .before .before .before .before .before .before .before .before .before .before .before .before .before .before .before .column2 .result) costs (words .cost) i;
+          bound = omega (arith, ready .delay-most, ready .cost-most);
+          weight = λ i l. omega (arith, light i, light2 i);
         };
         flags = ready .flags;
       },
