@@ -1,5 +1,6 @@
 pub mod Tests
 pub mod Loops
+pub mod Columns
 pub mod NodeSet
 pub mod Scaling
 pub mod Paths

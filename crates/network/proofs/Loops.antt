@@ -1,7 +1,7 @@
 -- Laws of counted loops: a loop's three needs, what it keeps, when two loops agree, and when a loop may stop early.
 -- Assumes nothing.
 use mathlib.Core.Path.{_≡_, refl, sym, _∙_, ap, subst}
-use mathlib.Core.Bool.{Bool, true, false, cond, false≢true}
+use mathlib.Core.Bool.{Bool, true, false, cond, _&&_, false≢true}
 use mathlib.Core.Logic.{⊎-elim}
 use Prim.Native.Nat.{ℕ, zero, suc, _+_, _-_, _<_, _≤_}
 use native.Mathlib.Nat.{zero-add, suc-add, eq-or-lt-of-le, le-refl}
@@ -9,8 +9,8 @@ use native.Mathlib.Numerals.{add-one}
 use native.Mathlib.Omega.{arith}
 use lib.Dec.{ltb}
 use borrow.Author.Tests.{ltb-true, ltb-false}
-use Rattle.network.specs.Loops.{iter, first}
-use Rattle.network.proofs.Tests.{by-eq, by-lt, by-test}
+use Rattle.network.specs.Loops.{iter, first, every}
+use Rattle.network.proofs.Tests.{by-eq, by-lt, by-test, fst-of, snd-of}
 
 module _ {A : Type 0} (f : ℕ → A → A) where
   -- before the first turn
@@ -115,3 +115,41 @@ pub first-same : (f h : ℕ → Bool) (n : ℕ) → ((i : ℕ) → i < n → f i
 unfolding first
 first-same f h zero same = refl
 first-same f h (suc n) same = rw (first-same f h n (λ i low. same i (omega arith)), same n (omega arith))
+
+-- ---- a test at every number below n
+and-false : (b : Bool) → (b && false) ≡ false
+and-false true = refl
+and-false false = refl
+
+module _ (f : ℕ → Bool) where
+  -- before the first turn
+  pub every-none : every f 0 ≡ true
+  unfolding every
+  every-none = refl
+
+  -- one more number passes
+  pub every-more : (i : ℕ) → every f i ≡ true → f i ≡ true → every f (i + 1) ≡ true
+  unfolding every
+  every-more i h q = rw (add-one, h, q) refl
+
+  -- after the last turn
+  pub every-done : (i n : ℕ) → every f i ≡ true → i ≡ n → true ≡ every f n
+  every-done i n h q = sym (rw q at h)
+
+  -- one that fails is enough
+  pub every-fails : (i n : ℕ) → i < n → f i ≡ false → false ≡ every f n
+  unfolding every
+  every-fails i zero low q = absurd (omega arith)
+  every-fails i (suc n) low q =
+      by-eq i n (λ e. rw (← e, q) (sym (and-false (every f i)))) (λ e. rw (← every-fails i n (omega arith) q) refl)
+
+  pub every-at : (i n : ℕ) → i < n → every f n ≡ true → f i ≡ true
+  unfolding every
+  every-at i zero low h = absurd (omega arith)
+  every-at i (suc n) low h =
+      by-eq i n (λ e. rw e (snd-of (every f n) (f n) h)) (λ e. every-at i n (omega arith) (fst-of (every f n) (f n) h))
+
+  pub every-all : (n : ℕ) → ((i : ℕ) → i < n → f i ≡ true) → every f n ≡ true
+  unfolding every
+  every-all zero all = refl
+  every-all (suc n) all = rw (every-all n (λ i low. all i (omega arith)), all n (omega arith)) refl

@@ -1,7 +1,7 @@
 // The words of a link table: five a link, in the order from, to, delay, cost, capacity.
 ghost use mathlib.Core.Path.{_≡_};
-ghost use Prim.Native.Nat.{_+_, _*_, _<_, _≤_};
-ghost use lib.ListN.{length};
+ghost use Prim.Native.Nat.{ℕ, _+_, _*_, _<_, _≤_};
+ghost use lib.ListN.{length, getD};
 ghost use Rattle.network.specs.Words.{field};
 
 // Which word of a link says what.
@@ -12,6 +12,8 @@ pub const TO: usize = 1;
 pub const DELAY: usize = 2;
 
 pub const COST: usize = 3;
+
+pub const CAPACITY: usize = 4;
 
 // A word as an index; it always fits.
 pub fn wide(word: u32) -> usize
@@ -28,4 +30,18 @@ pub fn word(links: &[u32], i: usize, j: usize) -> u32
     ensures { λ r. ⌜ r ≡ field (now (links .entry)) i j ⌝ }
 {
     links[5 * i + j]
+}
+
+// Word `j` of every link; no link stands past the table's end, and there the column holds 0.
+pub fn column(links: &[u32], m: usize, j: usize) -> [u32; 256]
+    requires { ⌜ m ≤ 256 ⌝ }
+    requires { ⌜ j < 5 ⌝ }
+    requires { ⌜ length (now links) ≡ 5 * m ⌝ }
+    ensures { λ r. ⌜ ((i : ℕ) → getD r i 0 ≡ field (now (links .entry)) i j) ⌝ }
+{
+    let mut words = [0; 256];
+    for i in 0..m {
+        words[i] = word(links, i, j);
+    }
+    words
 }

@@ -1,4 +1,3 @@
-pub mod Columns
 pub mod Steps
 pub mod Turn
 pub mod Unflagged

@@ -8,10 +8,10 @@ ghost use Rattle.route.specs.Ready.{Ready};
 use crate::Answer;
 use crate::Reduced;
 use crate::attempt::attempt;
-use crate::weights::column;
 use crate::weights::scaled_column;
 use network::Request;
 use network::link;
+use network::link::column;
 
 // The answer for request `r` at `x`.
 pub fn both_problems(

@@ -1,25 +1,9 @@
-// The links' weights, prepared once: the rounds divide nothing.
+// The links' scaled weights, prepared once: the rounds divide nothing.
 ghost use mathlib.Core.Path.{_≡_};
-ghost use Prim.Native.Nat.{ℕ, _*_, _≤_, _<_};
-ghost use lib.ListN.{length, getD};
-ghost use Rattle.network.specs.Words.{field};
+ghost use Prim.Native.Nat.{ℕ, _≤_, _<_};
+ghost use lib.ListN.{getD};
 ghost use Rattle.network.specs.Scale.{scaled};
-use network::link;
 use network::scale::scale;
-
-// Word `j` of every link; no link stands past the table's end, and there the column holds 0.
-pub fn column(links: &[u32], m: usize, j: usize) -> [u32; 256]
-    requires { ⌜ m ≤ 256 ⌝ }
-    requires { ⌜ j < 5 ⌝ }
-    requires { ⌜ length (now links) ≡ 5 * m ⌝ }
-    ensures { λ r. ⌜ ((i : ℕ) → getD r i 0 ≡ field (now (links .entry)) i j) ⌝ }
-{
-    let mut words = [0; 256];
-    for i in 0..m {
-        words[i] = link::word(links, i, j);
-    }
-    words
-}
 
 // The scaled weight of every link, formula 1.
 pub fn scaled_column(weights: &[u32; 256], m: usize, x: usize, bound: u32) -> [u32; 256]

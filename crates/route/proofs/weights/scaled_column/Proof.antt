@@ -7,7 +7,7 @@ use native.Mathlib.Omega.{arith}
 use borrow.Author.Needs.{needs}
 use lib.ListN.{getD}
 use Rattle.network.specs.Scale.{scaled}
-use Rattle.route.proofs.Columns.{Filled, filled-none, filled-more, filled-done}
+use Rattle.network.proofs.Columns.{Filled, filled-none, filled-more, filled-done}
 use Rattle.route.proofs.weights.scaled_column.Statement.{statement}
 use Rattle.route.proofs.weights.scaled_column.Tie as tie
 

@@ -1,4 +1,4 @@
--- `route::weights::column` meets its contract: the loop fills the column entry by entry, and past the table's end both sides are 0.
+-- `network::link::column` meets its contract: the loop fills the column entry by entry, and past the table's end both sides are 0.
 -- Assumes nothing.
 use mathlib.Core.Path.{_≡_}
 use mathlib.Core.List.{List}
@@ -6,10 +6,10 @@ use Prim.Native.Nat.{ℕ, _-_, _*_, _≤_}
 use native.Mathlib.Omega.{arith}
 use borrow.Author.Needs.{needs}
 use lib.ListN.{length, List·getD-eq-default}
 use Rattle.network.specs.Words.{field}
-use Rattle.route.proofs.Columns.{Filled, filled-none, filled-more, filled-done}
-use Rattle.route.proofs.weights.column.Statement.{statement}
-use Rattle.route.proofs.weights.column.Tie as tie
+use Rattle.network.proofs.Columns.{Filled, filled-none, filled-more, filled-done}
+use Rattle.network.proofs.link.column.Statement.{statement}
+use Rattle.network.proofs.link.column.Tie as tie
 
 -- no link stands past the table's end
 past : (links : List ℕ) (m i j : ℕ) → length links ≡ 5 * m → m ≤ i → field links i j ≡ 0
