@@ -1,0 +1,3 @@
+pub mod WordsAt
+pub mod Found
+pub mod LinkTest

@@ -1,0 +1,15 @@
+-- `station::table::in_range` meets its contract: one test after the other.
+-- Assumes nothing.
+use mathlib.Core.Path.{_≡_, refl}
+use borrow.Author.Tests.{lt-leb, le-leb}
+use Rattle.station.proofs.table.in_range.Statement.{statement}
+use Rattle.station.proofs.table.in_range.Tie as tie
+
+returns : tie.Need-returns
+returns c = simp (lt-leb _ _ (c .if1 .taken))
+
+returns-2 : tie.Need-returns-2
+returns-2 c = simp (le-leb _ _ (c .if1 .left))
+
+pub in-range-spec : {M : Type 1} → statement M
+in-range-spec = tie.close (tie.spec returns returns-2)

@@ -1,0 +1,58 @@
+// The calls that only read the area: the listing of circuit numbers, and a link's free units.
+ghost use mathlib.Core.Path.{_≡_};
+ghost use mathlib.Core.List.{_++_};
+ghost use Prim.Native.Nat.{_≤_};
+ghost use lib.ListN.{length, drop};
+ghost use Rattle.station.specs.Held.{numbersFrom};
+ghost use Rattle.station.specs.Reads.{listAnswer, listed, freeAnswer};
+ghost use Rattle.station.specs.Ready.{Room};
+use crate::Reading;
+use crate::check::check;
+use crate::layout;
+use network::link;
+
+// The numbers of the first `h` circuits.
+fn write_numbers(area: &[u32], h: usize, numbers: &mut [u32])
+    requires { ⌜ Room (now area) h ⌝ }
+    requires { ⌜ h ≤ length (now numbers) ⌝ }
+    ensures { λ _. ⌜ now (numbers .exit) ≡ numbersFrom (now (area .entry)) 0 h ++ drop h (now (numbers .entry)) ⌝ }
+{
+    for j in 0..h {
+        let at = layout::place(j);
+        numbers[j] = area[at];
+    }
+}
+
+// 5 and 14 in this order; else the numbers of the held circuits, each once, and how many they are. The words past
+// them keep theirs.
+pub fn list(area: &[u32], numbers: &mut [u32]) -> Reading
+    ensures answer { λ a. ⌜ a ≡ listAnswer (now (area .entry)) (length (now (numbers .entry))) ⌝ }
+    ensures numbers { λ _. ⌜ now (numbers .exit) ≡ listed (now (area .entry)) (now (numbers .entry)) ⌝ }
+{
+    let c = check(area);
+    if !c.formed {
+        return Reading::Refused(5);
+    }
+    let h = link::wide(area[layout::HELD]);
+    if numbers.len() < h {
+        return Reading::Refused(14);
+    }
+    write_numbers(area, h, numbers);
+    Reading::Value(area[layout::HELD])
+}
+
+// 5 and 15 in this order; else the link's free units.
+pub fn free_units(area: &[u32], link: u32) -> Reading
+    ensures { λ a. ⌜ a ≡ freeAnswer (now (area .entry)) link ⌝ }
+{
+    let c = check(area);
+    if !c.formed {
+        return Reading::Refused(5);
+    }
+    let i = link::wide(link);
+    if link::wide(area[layout::LINKS]) <= i {
+        return Reading::Refused(15);
+    }
+    let free = c.free;
+    Reading::Value(free[i])
+}

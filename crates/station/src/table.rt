@@ -1,0 +1,56 @@
+// The ranges of a link table, for loading and for the check of an area.
+ghost use mathlib.Core.Path.{_≡_};
+ghost use Prim.Native.Nat.{_*_, _<_, _≤_};
+ghost use lib.ListN.{length};
+ghost use Rattle.station.specs.Formed.{linkFits, linksFit, inRange};
+use network::link;
+
+// Whether `x` is from `low` to `high`.
+pub fn in_range(low: u32, high: u32, x: u32) -> bool
+    ensures { λ r. ⌜ r ≡ inRange low high x ⌝ }
+{
+    if x < low {
+        return false;
+    }
+    x <= high
+}
+
+// Whether link `i` of `m` has both ends among `n` nodes and apart, and its weights and its capacity in range.
+fn link_fits(n: u32, m: usize, links: &[u32], i: usize) -> bool
+    requires { ⌜ length (now links) ≡ 5 * m ⌝ }
+    requires { ⌜ (m ≤ 256) × (i < m) ⌝ }
+    ensures { λ r. ⌜ r ≡ linkFits (record { nodes = n; links = m; words = now (links .entry) }) i ⌝ }
+{
+    let from = link::word(links, i, link::FROM);
+    if n <= from {
+        return false;
+    }
+    let to = link::word(links, i, link::TO);
+    if n <= to {
+        return false;
+    }
+    if from == to {
+        return false;
+    }
+    if 1000000 < link::word(links, i, link::DELAY) {
+        return false;
+    }
+    if 1000000 < link::word(links, i, link::COST) {
+        return false;
+    }
+    link::word(links, i, link::CAPACITY) <= 65535
+}
+
+// Whether every link fits.
+pub fn links_fit(n: u32, m: usize, links: &[u32]) -> bool
+    requires { ⌜ length (now links) ≡ 5 * m ⌝ }
+    requires { ⌜ m ≤ 256 ⌝ }
+    ensures { λ r. ⌜ r ≡ linksFit (record { nodes = n; links = m; words = now (links .entry) }) ⌝ }
+{
+    for i in 0..m {
+        if !link_fits(n, m, links, i) {
+            return false;
+        }
+    }
+    true
+}

@@ -1,0 +1,26 @@
+// Which links are usable for a request: those whose free units are at least its units.
+ghost use mathlib.Core.Path.{_≡_};
+ghost use Prim.Native.Nat.{ℕ, _<_};
+ghost use lib.ListN.{getD};
+ghost use Rattle.station.specs.Units.{flag};
+
+// 1 where the free units are enough, else 0.
+fn flag(units: u32, free: u32) -> u32
+    ensures { λ r. ⌜ r ≡ flag units free ⌝ }
+{
+    if units <= free {
+        return 1;
+    }
+    0
+}
+
+// The flag of each link.
+pub fn usable(free: &[u32; 256], units: u32) -> [u32; 256]
+    ensures { λ r. ⌜ ((i : ℕ) → i < 256 → getD r i 0 ≡ flag units (getD (now (free .entry)) i 0)) ⌝ }
+{
+    let mut flags = [0; 256];
+    for i in 0..256 {
+        flags[i] = flag(units, free[i]);
+    }
+    flags
+}
