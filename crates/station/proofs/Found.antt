@@ -1,6 +1,5 @@
--- The numbers of held circuits by their places: a number is held where it is found, no two places have one number, and
--- the listing names exactly the held numbers. Circuits stand last one first, places first one first, so most laws go by
--- one place more.
+-- The numbers of held circuits by their places: a number is held if and only if it is found, numbers that differ differ
+-- by places, and the listing names exactly the held numbers. Each law goes by one place more.
 -- Assumes nothing.
 use mathlib.Core.Path.{_≡_, refl, sym, ap, _∙_}
 use mathlib.Core.Bool.{Bool, true, false, cond, _||_, or-true}
@@ -19,6 +18,7 @@ use Rattle.station.specs.Station.{circuitOf, circuitAt, circuits}
 use Rattle.station.specs.Books.{numbers, holds}
 use Rattle.station.specs.Held.{numberAt, foundAt, numbersFrom}
 
+-- a circuit's number is the first of its words
 pub circuit-number : (w : List ℕ) (j : ℕ) → circuitAt w j .number ≡ numberAt w j
 unfolding circuitOf
 circuit-number w j = refl
@@ -56,6 +56,7 @@ unfolding circuitOf
 number-each P w zero all j low = absurd (omega arith)
 number-each P w (suc h) all j low = by-eq j h (λ e. rw e (all .0)) (λ e. number-each P w h (all .1) j (omega arith))
 
+-- where held numbers differ, two places have two numbers
 pub numbers-once : (w : List ℕ) (h : ℕ) → Distinct (numbers (circuits w h))
     → (i j : ℕ) → i < h → j < h → (i ≡ j → ⊥) → numberAt w i ≡ numberAt w j → ⊥
 unfolding circuitOf

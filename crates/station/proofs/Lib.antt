@@ -1,3 +1,10 @@
 pub mod WordsAt
 pub mod Found
 pub mod LinkTest
+pub mod PathTest
+pub mod Formed
+pub mod StationWords
+pub mod Added
+pub mod Removed
+pub mod Keeps
+pub mod Loads

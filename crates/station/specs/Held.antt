@@ -19,4 +19,3 @@ foundAt w h c = first (λ j. eqb c (numberAt w j)) h
 abbrev pub numbersFrom : List ℕ → ℕ → ℕ → List ℕ
 numbersFrom w j zero = []
 numbersFrom w j (suc n) = numberAt w j ∷ numbersFrom w (suc j) n
-

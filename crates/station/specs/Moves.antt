@@ -1,6 +1,7 @@
 -- The area with a circuit more, and with one less; and what that does to the list of circuits.
 -- Assumes nothing.
-use Prim.Native.Nat.{ℕ, zero, suc, _+_, _*_, _-_}
+use Prim.Native.Nat.{ℕ, zero, suc, _+_, _*_, _-_, _≤_, _<_}
+use mathlib.Core.Path.{_≡_}
 use mathlib.Core.Bool.{cond}
 use mathlib.Core.List.{List, [], _∷_}
 use lib.Dec.{eqb}
@@ -37,3 +38,11 @@ withCircuit s c = record { table = s .table; held = c ∷ s .held }
 
 abbrev pub withoutNumber : Station → ℕ → Station
 withoutNumber s k = record { table = s .table; held = without k (s .held) }
+
+-- document 01: "n, m, words 3 to 1,282 and words past 3,458 aren't touched"
+pub record Untouched (w w' : List ℕ) : Type 0 where
+  pub nodes : getD w' 0 0 ≡ getD w 0 0
+  pub links : getD w' 1 0 ≡ getD w 1 0
+  pub table : (i : ℕ) → 3 ≤ i → i < 1283 → getD w' i 0 ≡ getD w i 0
+  pub past : (i : ℕ) → 3459 ≤ i → getD w' i 0 ≡ getD w i 0
+  pub long : length w' ≡ length w

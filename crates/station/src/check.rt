@@ -7,7 +7,7 @@ ghost use Rattle.station.specs.Reads.{freeIn};
 use crate::Checked;
 use crate::circuits::circuits_fit;
 use crate::layout;
-use crate::table::in_range;
+use crate::range::in_range;
 use crate::table::links_fit;
 use crate::units::take_circuits;
 use crate::units::unfit;

@@ -7,7 +7,7 @@ ghost use Rattle.station.specs.Formed.{goesOn, pathFits, circuitFits, he
 ghost use Rattle.station.specs.Ready.{Links, Room, placeFits};
 use crate::held::find;
 use crate::layout;
-use crate::table::in_range;
+use crate::range::in_range;
 use network::link;
 use network::node_set;
 

@@ -4,7 +4,7 @@ ghost use lib.ListN.{length};
 ghost use Rattle.station.specs.Load.{loadAnswer, areaLoaded};
 use crate::Loading;
 use crate::layout;
-use crate::table::in_range;
+use crate::range::in_range;
 use crate::table::links_fit;
 
 // 1, 2, 3 and 4 in this order; else n, m, 0 and the links are written, and all other words keep their contents.

@@ -2,18 +2,8 @@
 ghost use mathlib.Core.Path.{_≡_};
 ghost use Prim.Native.Nat.{_*_, _<_, _≤_};
 ghost use lib.ListN.{length};
-ghost use Rattle.station.specs.Formed.{linkFits, linksFit, inRange};
+ghost use Rattle.station.specs.Formed.{linkFits, linksFit};
 use network::link;
-
-// Whether `x` is from `low` to `high`.
-pub fn in_range(low: u32, high: u32, x: u32) -> bool
-    ensures { λ r. ⌜ r ≡ inRange low high x ⌝ }
-{
-    if x < low {
-        return false;
-    }
-    x <= high
-}
 
 // Whether link `i` of `m` has both ends among `n` nodes and apart, and its weights and its capacity in range.
 fn link_fits(n: u32, m: usize, links: &[u32], i: usize) -> bool

@@ -1,9 +1,9 @@
--- `station::table::in_range` meets its contract: one test after the other.
+-- `station::range::in_range` meets its contract: one test after the other.
 -- Assumes nothing.
 use mathlib.Core.Path.{_≡_, refl}
 use borrow.Author.Tests.{lt-leb, le-leb}
-use Rattle.station.proofs.table.in_range.Statement.{statement}
-use Rattle.station.proofs.table.in_range.Tie as tie
+use Rattle.station.proofs.range.in_range.Statement.{statement}
+use Rattle.station.proofs.range.in_range.Tie as tie
 
 returns : tie.Need-returns
 returns c = simp (lt-leb _ _ (c .if1 .taken))

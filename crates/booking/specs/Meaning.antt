@@ -1,0 +1,77 @@
+-- What the replies mean, with no algorithm: each call's rules in document 01's order, and what a grant must be.
+-- Assumes nothing.
+use Prim.Native.Nat.{ℕ, _≤_, _<_}
+use mathlib.Core.Path.{_≡_}
+use mathlib.Core.Bool.{Bool, true, false}
+use mathlib.Core.List.{List, [], _∷_, _++_}
+use Rattle.network.specs.Net.{Net, sum}
+use Rattle.network.specs.Problem.{NoPath}
+use Rattle.network.specs.declared.Request.{Request}
+use Rattle.route.specs.Result.{Unsolved, GrantedByOne, GrantedByTwo}
+use Rattle.station.specs.Station.{station}
+use Rattle.station.specs.Books.{Books, books, net}
+use Rattle.station.specs.Formed.{WellFormed}
+use Rattle.booking.specs.Requests.{RequestFits}
+use Rattle.booking.specs.Replies.{Reply, refuses, grants, releases}
+use Rattle.booking.specs.Calls.{booksIn}
+
+-- a rule: its number, and when it applies
+pub record Rule : Type 1 where
+  pub number : ℕ
+  pub applies : Type 0
+
+infix 3 _when_
+abbrev pub _when_ : ℕ → Type 0 → Rule
+n when p = record { number = n; applies = p }
+
+-- a call is refused by the first rule that applies; where none does, its reply is as G says
+pub data Answered (G : Reply → Type 0) : List Rule → Reply → Type 1 where
+  by : {r : Rule} {rs : List Rule} → r .applies → Answered G (r ∷ rs) (refuses (r .number))
+  past : {r : Rule} {rs : List Rule} {a : Reply} → (r .applies → ⊥) → Answered G rs a → Answered G (r ∷ rs) a
+  through : {a : Reply} → G a → Answered G [] a
+
+module _ (g : Net) (r : Request) where
+  -- problem 1 with a best solution of problem one; or problem 2, where problem one has none, with a best solution of
+  -- problem two; the delay and the cost are the path's own sums
+  pub data Grant : Reply → Type 0 where
+    by-one : (p : List ℕ) → GrantedByOne g r p → Grant (grants 1 (sum (g .delay) p) (sum (g .cost) p) p)
+    by-two : (p : List ℕ) → GrantedByTwo g r p → Grant (grants 2 (sum (g .delay) p) (sum (g .cost) p) p)
+
+  -- 9 if no usable path exists; 10 if one exists but neither problem has a solution
+  abbrev pub searchRules : List Rule
+  searchRules = (9 when NoPath g (r .source) (r .target)) ∷ (10 when Unsolved g r) ∷ []
+
+-- a circuit number out of range or held
+pub record NumberFits (o : Books) (c : ℕ) : Type 0 where
+  pub least : 1 ≤ c
+  pub most : c ≤ 65535
+  pub new : o .holds c ≡ false
+
+abbrev pub quoteRules : List ℕ → ℕ → ℕ → Request → List Rule
+quoteRules w work room r =
+    (5 when (WellFormed w → ⊥))
+    ∷ (6 when work < 16384)
+    ∷ (7 when room < 31)
+    ∷ (8 when (RequestFits (booksIn w .table .nodes) r → ⊥))
+    ∷ []
+
+abbrev pub admitRules : List ℕ → ℕ → List Rule
+admitRules w c = (11 when (NumberFits (booksIn w) c → ⊥)) ∷ (12 when 64 ≤ booksIn w .count) ∷ []
+
+-- the network that a request sees on an area
+abbrev pub netFor : List ℕ → Request → Net
+netFor w r = net (booksIn w) (r .units)
+
+-- a quote's reply
+abbrev pub Quoted : List ℕ → ℕ → ℕ → Request → Reply → Type 1
+Quoted w work room r a = Answered (Grant (netFor w r) r) (quoteRules w work room r ++ searchRules (netFor w r) r) a
+
+-- an admission's reply
+abbrev pub Admitted : List ℕ → ℕ → ℕ → ℕ → Request → Reply → Type 1
+Admitted w work room c r a =
+    Answered (Grant (netFor w r) r) (quoteRules w work room r ++ admitRules w c ++ searchRules (netFor w r) r) a
+
+-- a release's reply
+abbrev pub Cleared : List ℕ → ℕ → Reply → Type 1
+Cleared w c a =
+    Answered (λ b. b ≡ releases) ((5 when (WellFormed w → ⊥)) ∷ (13 when booksIn w .holds c ≡ false) ∷ []) a

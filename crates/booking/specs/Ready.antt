@@ -1,0 +1,18 @@
+-- What the search on an area relies on: the calls have passed their checks.
+-- Assumes nothing.
+use Prim.Native.Nat.{ℕ, _≤_}
+use mathlib.Core.Path.{_≡_}
+use mathlib.Core.Bool.{true}
+use mathlib.Core.List.{List}
+use lib.ListN.{length, getD}
+use Rattle.network.specs.declared.Request.{Request}
+use Rattle.station.specs.Formed.{wellFormed}
+use Rattle.station.specs.Reads.{freeIn}
+use Rattle.booking.specs.Requests.{requestFits}
+
+pub record Seekable (w free work path : List ℕ) (r : Request) : Type 0 where
+  pub formed : wellFormed w ≡ true
+  pub units : (i : ℕ) → getD free i 0 ≡ freeIn w i
+  pub memory : 16384 ≤ length work
+  pub buffer : 31 ≤ length path
+  pub request : requestFits (getD w 0 0) r ≡ true

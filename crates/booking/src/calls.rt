@@ -1,0 +1,110 @@
+// Quote, admission and release.
+ghost use mathlib.Core.Path.{_≡_};
+ghost use lib.ListN.{length};
+ghost use Rattle.booking.specs.Replies.{answerOf, pathAfter};
+ghost use Rattle.booking.specs.Calls.{quote, admission, booked, release, cleared};
+use crate::Answer;
+use crate::request::number_fits;
+use crate::request::request_fits;
+use crate::seek::seek;
+use network::Request;
+use network::link;
+use station::check::check;
+use station::held::find;
+use station::layout;
+use station::store;
+
+// The least lengths of work memory and of a path buffer.
+const WORK: usize = 16384;
+
+const PATH: usize = 31;
+
+// Most circuits held.
+const CIRCUITS: u32 = 64;
+
+// 5, 6, 7, 8, 9 and 10 in this order; else the problem, delay, cost and number of links of a path, whose links stand in
+// the first words of `path`. The area does not change. Work memory is open after.
+pub fn quote(area: &[u32], work: &mut [u32], path: &mut [u32], r: Request) -> Answer
+    ensures answer { λ a. ⌜ a ≡ answerOf (quote (now (area .entry)) (length (now (work .entry))) (length (now (path .entry))) r) ⌝ }
+    ensures path { λ _. ⌜ now (path .exit) ≡ pathAfter (quote (now (area .entry)) (length (now (work .entry))) (length (now (path .entry))) r) (now (path .entry)) ⌝ }
+{
+    let c = check(area);
+    if !c.formed {
+        return Answer::Refused(5);
+    }
+    if work.len() < WORK {
+        return Answer::Refused(6);
+    }
+    if path.len() < PATH {
+        return Answer::Refused(7);
+    }
+    if !request_fits(area[layout::NODES], r) {
+        return Answer::Refused(8);
+    }
+    let free = c.free;
+    seek(area, &free, work, path, r)
+}
+
+// 5, 6, 7, 8, 11, 12, 9 and 10 in this order; else it answers as a quote does and adds the circuit. Work memory is open
+// after.
+pub fn admit(
+    area: &mut [u32],
+    work: &mut [u32],
+    path: &mut [u32],
+    circuit: u32,
+    r: Request,
+) -> Answer
+    ensures answer { λ a. ⌜ a ≡ answerOf (admission (now (area .entry)) (length (now (work .entry))) (length (now (path .entry))) circuit r) ⌝ }
+    ensures path { λ _. ⌜ now (path .exit) ≡ pathAfter (admission (now (area .entry)) (length (now (work .entry))) (length (now (path .entry))) circuit r) (now (path .entry)) ⌝ }
+    ensures area { λ _. ⌜ now (area .exit) ≡ booked (now (area .entry)) circuit (r .units) (admission (now (area .entry)) (length (now (work .entry))) (length (now (path .entry))) circuit r) ⌝ }
+{
+    let c = check(area);
+    if !c.formed {
+        return Answer::Refused(5);
+    }
+    if work.len() < WORK {
+        return Answer::Refused(6);
+    }
+    if path.len() < PATH {
+        return Answer::Refused(7);
+    }
+    if !request_fits(area[layout::NODES], r) {
+        return Answer::Refused(8);
+    }
+    if !number_fits(area, circuit) {
+        return Answer::Refused(11);
+    }
+    if CIRCUITS <= area[layout::HELD] {
+        return Answer::Refused(12);
+    }
+    let free = c.free;
+    let answer = seek(area, &free, work, path, r);
+    let Answer::Granted(g) = answer else {
+        return answer;
+    };
+    store::add(
+        area,
+        circuit,
+        r.units,
+        layout::part(path, 0, link::wide(g.links)),
+    );
+    answer
+}
+
+// 5 and 13 in this order; else the circuit with this number goes and the others remain.
+pub fn release(area: &mut [u32], number: u32) -> Answer
+    ensures answer { λ a. ⌜ a ≡ answerOf (release (now (area .entry)) number) ⌝ }
+    ensures area { λ _. ⌜ now (area .exit) ≡ cleared (now (area .entry)) number (release (now (area .entry)) number) ⌝ }
+{
+    let c = check(area);
+    if !c.formed {
+        return Answer::Refused(5);
+    }
+    let h = link::wide(area[layout::HELD]);
+    let j = find(area, h, number);
+    if h <= j {
+        return Answer::Refused(13);
+    }
+    store::remove(area, j);
+    Answer::Released
+}

@@ -1,0 +1,43 @@
+// The service classes of document 01: what each kind of job asks for.
+ghost use mathlib.Core.Path.{_≡_};
+ghost use Rattle.classes.specs.Classes.{classAnswer};
+
+// What a class asks for: its units, its bounds D and C, and its coefficient.
+pub struct Service {
+    pub units: u32,
+    pub delay_bound: u32,
+    pub cost_bound: u32,
+    pub coefficient: u32,
+}
+
+// What the class call answers: document 01's number, or the class's row.
+pub enum Answer {
+    Refused(u32),
+    Row(Service),
+}
+
+// Card, PIN, tank, prices, service, pictures.
+const ROWS: [[u32; 4]; 6] = [
+    [1, 400, 60, 8],
+    [1, 250, 80, 8],
+    [2, 2000, 40, 4],
+    [2, 5000, 30, 2],
+    [8, 800, 300, 6],
+    [16, 3000, 600, 2],
+];
+
+// 16 if the class is over 5; else its row.
+pub fn class(k: u32) -> Answer
+    ensures { λ a. ⌜ a ≡ classAnswer k ⌝ }
+{
+    if 5 < k {
+        return Answer::Refused(16);
+    }
+    let row = ROWS[k as usize];
+    Answer::Row(Service {
+        units: row[0],
+        delay_bound: row[1],
+        cost_bound: row[2],
+        coefficient: row[3],
+    })
+}
