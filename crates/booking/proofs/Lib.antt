@@ -1,0 +1,7 @@
+pub mod Passed
+pub mod Meaning
+pub mod Bookings
+pub mod Depends
+pub mod Seeking
+pub mod CallCases
+pub mod Granting

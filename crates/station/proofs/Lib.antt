@@ -7,4 +7,13 @@ pub mod StationWords
 pub mod Added
 pub mod Removed
 pub mod Keeps
+pub mod Order
 pub mod Loads
+pub mod Stores
+pub mod LoadCases
+pub mod Onward
+pub mod CircuitCases
+pub mod Taken
+pub mod CircuitUnits
+pub mod CheckCases
+pub mod ReadCases

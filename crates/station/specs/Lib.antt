@@ -5,6 +5,7 @@ pub mod Formed
 pub mod Units
 pub mod Ready
 pub mod Moves
+pub mod Order
 pub mod Checks
 pub mod Load
 pub mod Reads

@@ -1,0 +1,81 @@
+-- Before a grant: a reply that is no refusal comes past every check, a granted path is a path of the table with usable
+-- links, and what a well-formed area's words say. Each law goes by the next check, link or circuit.
+-- Assumes nothing.
+use Prim.Native.Nat.{ℕ, _≤_}
+use mathlib.Core.Path.{_≡_, refl}
+use mathlib.Core.Bool.{Bool, true, false, _||_, false≢true}
+use mathlib.Core.List.{List, [], _∷_}
+use native.Mathlib.Omega.{arith}
+use lib.Dec.{eqb}
+use lib.ListN.{length, getD}
+use borrow.Author.Tests.{eqb-true}
+use Rattle.network.specs.Lists.{All, memb}
+use Rattle.network.specs.Net.{Net, Walk, IsPath}
+use Rattle.network.proofs.Tests.{by-bool}
+use Rattle.station.specs.Station.{Table, Circuit, headOf, station, tableIn}
+use Rattle.station.specs.Books.{Books, holds, books, net, whole}
+use Rattle.station.specs.Formed.{CircuitFits, WellFormed}
+use Rattle.station.specs.Checks.{Check, checked, pass}
+use Rattle.station.proofs.Found.{held-length}
+use Rattle.booking.specs.Replies.{Reply, refuses, grants, releases}
+use Rattle.booking.specs.Calls.{booksIn}
+
+-- ---- replies and checks
+-- a reply that is no refusal comes past every check
+pub all-pass : (cs : List Check) (a b : Reply) → ((k : ℕ) → refuses k ≡ b → ⊥) → checked refuses cs a ≡ b → (pass cs ≡ true) × (a ≡ b)
+all-pass [] a b other e = (refl, e)
+all-pass (c ∷ cs) a b other e =
+    by-bool (c .passes) (λ q. rw q (all-pass cs a b other (rw q at e))) (λ q. absurd (other (c .number) (rw q at e)))
+
+pub granted-not-refused : (k d x : ℕ) (p : List ℕ) (n : ℕ) → refuses n ≡ grants k d x p → ⊥
+granted-not-refused k d x p n e = let z : _≡_ {A = ℕ} 0 1 = cc in omega arith
+
+pub released-not-refused : (n : ℕ) → refuses n ≡ releases → ⊥
+released-not-refused n e = let z : _≡_ {A = ℕ} 0 1 = cc in omega arith
+
+-- ---- a granted path as a circuit
+module _ (o : Books) (b : ℕ) where
+  -- a usable path is a path of the table
+  whole-walk : (s t : ℕ) (p : List ℕ) → Walk (net o b) s t p → Walk (whole (o .table)) s t p
+  unfolding net whole
+  whole-walk s t [] h = h
+  whole-walk s t (i ∷ p) h = (h .0, refl, h .2, whole-walk (headOf (o .table) i) t p (h .3))
+
+  pub whole-path : (s t : ℕ) (p : List ℕ) → IsPath (net o b) s t p → IsPath (whole (o .table)) s t p
+  unfolding net whole
+  whole-path s t p h = record { some = h .some; walk = whole-walk s t p (h .walk); distinct = h .distinct }
+
+-- every link of a walk is usable
+pub walk-usable : (g : Net) (s t : ℕ) (p : List ℕ) → Walk g s t p → (i : ℕ) → memb i p ≡ true → g .usable i ≡ true
+walk-usable g s t [] h i e = absurd (false≢true e)
+walk-usable g s t (j ∷ p) h i e = go (eqb i j) refl e (walk-usable g (g .head j) t p (h .3) i)
+  where
+    go : (b : Bool) → eqb i j ≡ b → (b || memb i p) ≡ true → (memb i p ≡ true → g .usable i ≡ true) → g .usable i ≡ true
+    go true q e on = rw (eqb-true i j q) (h .1)
+    go false q e on = on e
+
+pub some-link : {g : Net} {s t : ℕ} (p : List ℕ) → IsPath g s t p → 1 ≤ length p
+some-link [] h = absurd (h .some)
+some-link (i ∷ p) h = omega arith
+
+-- ---- what a well-formed area's words say
+pub count-is : (w : List ℕ) → booksIn w .count ≡ getD w 2 0
+unfolding books station
+count-is w = held-length w (getD w 2 0)
+
+pub links-few : (w : List ℕ) → WellFormed w → getD w 1 0 ≤ 256
+unfolding station tableIn
+links-few w h = h .sound .table .links-most
+
+pub held-few : (w : List ℕ) → WellFormed w → getD w 2 0 ≤ 64
+unfolding station
+held-few w h = omega (arith, held-length w (getD w 2 0), h .sound .few)
+
+-- a held number is in its range
+pub held-number : (t : Table) (l : List Circuit) (k : ℕ) → All (CircuitFits t) l → holds l k ≡ true → (1 ≤ k) × (k ≤ 65535)
+held-number t [] k h e = absurd (false≢true e)
+held-number t (c ∷ l) k h e = go (eqb k (c .number)) refl e (held-number t l k (h .1))
+  where
+    go : (b : Bool) → eqb k (c .number) ≡ b → (b || holds l k) ≡ true → (holds l k ≡ true → (1 ≤ k) × (k ≤ 65535)) → (1 ≤ k) × (k ≤ 65535)
+    go true q e on = rw (eqb-true k (c .number) q) (h .0 .number-least, h .0 .number-most)
+    go false q e on = on e
