@@ -14,7 +14,7 @@ use Rattle.station.specs.Station.{station, tableIn, circuits}
 use Rattle.station.specs.Books.{Books, books, holds}
 use Rattle.station.specs.Held.{foundAt}
 use Rattle.station.specs.Formed.{inRange, wellFormed}
-use Rattle.station.specs.Checks.{Check, checked}
+use Rattle.station.specs.Checks.{Check, _unless_, checked}
 use Rattle.station.proofs.Found.{held-length, holds-found}
 use Rattle.booking.specs.Requests.{requestFits}
 use Rattle.booking.specs.Replies.{Reply, refuses, releases}
@@ -45,6 +45,19 @@ module _ (w : List ℕ) (work room : ℕ) (r : Request) (more : List Check) (a :
         unfolding books station tableIn
         passes-8 e = rw (formed, le-leb 16384 work memory, le-leb 31 room buffer, e) refl
 
+-- the two calls are these checks, with nothing after them and with an admission's own
+pub quote-is : (w : List ℕ) (work room : ℕ) (r : Request) → checked refuses (quoteChecks w work room r ++ []) (sought (booksIn w) r) ≡ quote w work room r
+unfolding quote
+quote-is w work room r = refl
+
+abbrev pub ownChecks : List ℕ → ℕ → List Check
+ownChecks w c = (11 unless numberFits (booksIn w) c) ∷ (12 unless ltb (booksIn w .count) 64) ∷ []
+
+pub admission-is : (w : List ℕ) (work room c : ℕ) (r : Request)
+    → checked refuses (quoteChecks w work room r ++ ownChecks w c) (sought (booksIn w) r) ≡ admission w work room c r
+unfolding admission
+admission-is w work room c r = refl
+
 -- ---- what an admission asks besides
 module _ (w : List ℕ) where
   -- how many are held, and whether a number is
@@ -70,19 +83,17 @@ module _ (w : List ℕ) where
 
   module _ (work room c : ℕ) (r : Request) (formed : wellFormed w ≡ true) (memory : 16384 ≤ work) (buffer : 31 ≤ room)
       (request : requestFits (getD w 0 0) r ≡ true) where
+    own-left : checked refuses (ownChecks w c) (sought (booksIn w) r) ≡ admission w work room c r
+    own-left = passes-8 w work room r (ownChecks w c) (sought (booksIn w) r) formed memory buffer request ∙ admission-is w work room c r
+
     pub fails-11 : numberFits (booksIn w) c ≡ false → refuses 11 ≡ admission w work room c r
-    unfolding admission
-    fails-11 e = rw (← passes-8 w work room r _ (sought (booksIn w) r) formed memory buffer request, e) refl
+    fails-11 e = rw (← own-left, e) refl
 
     pub fails-12 : numberFits (booksIn w) c ≡ true → 64 ≤ getD w 2 0 → refuses 12 ≡ admission w work room c r
-    unfolding admission
-    fails-12 e high =
-        rw (← passes-8 w work room r _ (sought (booksIn w) r) formed memory buffer request, e, count-is, le-ltb (getD w 2 0) 64 high) refl
+    fails-12 e high = rw (← own-left, e, count-is, le-ltb (getD w 2 0) 64 high) refl
 
     pub searches : numberFits (booksIn w) c ≡ true → getD w 2 0 < 64 → sought (booksIn w) r ≡ admission w work room c r
-    unfolding admission
-    searches e low =
-        rw (← passes-8 w work room r _ (sought (booksIn w) r) formed memory buffer request, e, count-is, lt-ltb (getD w 2 0) 64 low) refl
+    searches e low = rw (← own-left, e, count-is, lt-ltb (getD w 2 0) 64 low) refl
 
   -- ---- release
   pub release-unfit : (c : ℕ) → wellFormed w ≡ false → refuses 5 ≡ release w c

@@ -1,29 +1,33 @@
 -- What the code's enum says of a reply, and what a granted path in the buffer is.
 -- Assumes nothing.
-use Prim.Native.Nat.{ℕ, _+_, _≤_, _<_}
-use mathlib.Core.Path.{_≡_, refl, sym, ap, _∙_}
+use Prim.Native.Nat.{ℕ, _≤_, _<_}
+use mathlib.Core.Path.{_≡_, refl, ap, _∙_}
+use mathlib.Core.Bool.{true}
 use mathlib.Core.List.{List, [], _∷_, _++_}
 use mathlib.Core.Logic.{⊎-elim}
 use native.Mathlib.Nat.{zero-add}
 use types.Run.{OneOf}
 use native.Mathlib.Omega.{arith}
-use lib.ListN.{length, getD, drop, length-append, length-drop, List·getD-append}
+use lib.ListN.{length, getD, drop, List·getD-append}
 use Rattle.network.specs.Net.{Net, Ends, IsPath}
 use Rattle.network.specs.Reduce.{Outcome, no-path, no-solution, granted}
 use Rattle.network.specs.declared.Request.{Request}
 use Rattle.network.proofs.Short.{path-short}
-use Rattle.ebf.specs.Search.{search}
 use Rattle.route.specs.declared.Grant.{Grant}
 use Rattle.route.specs.Answers as route
-use Rattle.station.specs.Station.{wordsAt}
-use Rattle.station.specs.Formed.{WellFormed}
+use Rattle.station.specs.Station.{station, tableIn, wordsAt}
+use Rattle.station.specs.Books.{books}
+use Rattle.station.specs.Formed.{wellFormed}
 use Rattle.station.specs.Moves.{added}
+use Rattle.station.proofs.Formed.{formed-says}
 use Rattle.station.proofs.WordsAt.{words-list}
 use Rattle.booking.specs.declared.Answer.{Answer}
 use Rattle.booking.specs.declared.Answer.the-variants.{Refused, Granted, Released}
 use Rattle.booking.specs.Replies.{Reply, refuses, grants, releases, answerOf, told, replyOf, pathAfter}
-use Rattle.booking.specs.Calls.{booked}
-use Rattle.booking.specs.Meaning.{Answered, by, past, through, Grant as Means, by-one, by-two, searchRules}
+use Rattle.booking.specs.Requests.{requestFits}
+use Rattle.booking.specs.Calls.{booksIn, sought, booked}
+use Rattle.booking.specs.Meaning.{Answered, by, past, through, Grant as Means, by-one, by-two, searchRules, netFor}
+use Rattle.booking.proofs.Meaning.{request-says, area-searchable, sought-means}
 
 -- the search's answer, numbered, is the reply's
 pub told-reply : (g : Net) (o : Outcome) → told (route.answerOf g o) ≡ answerOf (replyOf g o)
@@ -40,7 +44,7 @@ path-reply g (granted k p) l = refl
 
 -- the stored circuit is the reply's, read back from the path buffer
 module _ (w : List ℕ) (c u : ℕ) (g : Grant) (l : List ℕ) where
-  pub stored : (a : Reply) → answerOf a ≡ Granted g
+  stored : (a : Reply) → answerOf a ≡ Granted g
       → added w (record { number = c; units = u; path = wordsAt (pathAfter a l) 0 (g .links) }) ≡ booked w c u a
   unfolding answerOf pathAfter booked
   stored (refuses k) e = absurd (let z : _≡_ {A = ℕ} 0 1 = cc in omega arith)
@@ -50,12 +54,21 @@ module _ (w : List ℕ) (c u : ℕ) (g : Grant) (l : List ℕ) where
       let path : wordsAt (p ++ drop (length p) l) 0 (length p) ≡ p = words-list (p ++ drop (length p) l) 0 p (λ i low. rw zero-add (List·getD-append p (drop (length p) l) 0 i low)) in
       rw (many, path) refl
 
-  -- an answer of another case than `Granted` stores nothing
-  pub unstored : (a : Reply) → ((h : Grant) → answerOf a ≡ Granted h → ⊥) → w ≡ booked w c u a
-  unfolding answerOf booked
-  unstored (refuses k) other = refl
-  unstored releases other = refl
-  unstored (grants k d x p) other = absurd (other _ refl)
+  -- the same, with the buffer, the count and the part as the code holds them
+  pub stored-as : (a : Reply) → answerOf a ≡ Granted g → (buffer : List ℕ) → buffer ≡ pathAfter a l → (k : ℕ) → k ≡ g .links
+      → (p : List ℕ) → p ≡ wordsAt buffer 0 k
+      → added w (record { number = c; units = u; path = p }) ≡ booked w c u a
+  stored-as a e buffer holds k is p part =
+      ap (λ (q : List ℕ). added w (record { number = c; units = u; path = q }))
+      (part ∙ ap (λ (b : List ℕ). wordsAt b 0 k) holds ∙ ap (wordsAt (pathAfter a l) 0) is)
+      ∙ stored a e
+
+-- an answer of another case than `Granted` stores nothing
+pub unstored : (w : List ℕ) (c u : ℕ) (a : Reply) → ((g : Grant) → answerOf a ≡ Granted g → ⊥) → w ≡ booked w c u a
+unfolding answerOf booked
+unstored w c u (refuses k) other = refl
+unstored w c u releases other = refl
+unstored w c u (grants k d x p) other = absurd (other _ refl)
 
 -- an answer whose case is the first or the third is no grant
 pub other-case : (tag : Answer → ℕ) → ((g : Grant) → tag (Granted g) ≡ 1) → (a : Answer) → OneOf (0 ∷ 2 ∷ []) (tag a)
@@ -67,7 +80,7 @@ module _ (g : Net) (r : Request) (ends : Ends g) (few : g .nodes ≤ 32) (source
   short : (p : List ℕ) → IsPath g (r .source) (r .target) p → length p ≤ 31
   short p path = omega (arith, path-short g ends (r .source) (r .target) source p path)
 
-  pub links-short : (a : Reply) → Answered (Means g r) (searchRules g r) a → (h : Grant) → answerOf a ≡ Granted h → h .links ≤ 31
+  links-short : (a : Reply) → Answered (Means g r) (searchRules g r) a → (h : Grant) → answerOf a ≡ Granted h → h .links ≤ 31
   unfolding answerOf
   links-short a (by none) h e = absurd (let z : _≡_ {A = ℕ} 0 1 = cc in omega arith)
   links-short a (past some (by none)) h e = absurd (let z : _≡_ {A = ℕ} 0 1 = cc in omega arith)
@@ -75,3 +88,23 @@ module _ (g : Net) (r : Request) (ends : Ends g) (few : g .nodes ≤ 32) (source
       let many : h .links ≡ length p = cc in omega (arith, short p (best .2 .solves .path))
   links-short a (past some (past solved (through (by-two p best)))) h e =
       let many : h .links ≡ length p = cc in omega (arith, short p (best .3 .solves .path))
+
+pub granted-short : (w : List ℕ) (r : Request) → wellFormed w ≡ true → requestFits (getD w 0 0) r ≡ true
+    → (g : Grant) → answerOf (sought (booksIn w) r) ≡ Granted g
+    → g .links ≤ 31
+unfolding books station tableIn
+granted-short w r formed request g =
+    let whole = formed-says w formed in
+    let fits = request-says (getD w 0 0) r request in
+    let ok = area-searchable w r whole fits in
+    links-short (netFor w r) r (ok .ends) (ok .few) (ok .source) (sought (booksIn w) r) (sought-means w r whole fits) g
+
+-- ---- a refusal: the answer is its number, and no lent word changes
+pub refusal-quoted : (k : ℕ) (a : Reply) (l : List ℕ) → refuses k ≡ a → (Refused k ≡ answerOf a) × (l ≡ pathAfter a l)
+unfolding answerOf pathAfter
+refusal-quoted k a l e = (ap answerOf e, ap (λ (b : Reply). pathAfter b l) e)
+
+pub refusal-admitted : (k : ℕ) (a : Reply) (l w : List ℕ) (c u : ℕ) → refuses k ≡ a
+    → (Refused k ≡ answerOf a) × ((l ≡ pathAfter a l) × (w ≡ booked w c u a))
+unfolding answerOf pathAfter booked
+refusal-admitted k a l w c u e = (ap answerOf e, (ap (λ (b : Reply). pathAfter b l) e, ap (λ (b : Reply). booked w c u b) e))

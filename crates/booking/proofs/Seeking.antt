@@ -13,6 +13,7 @@ use Rattle.network.specs.Net.{Net}
 use Rattle.network.specs.Words.{field, netOf}
 use Rattle.network.specs.declared.Request.{Request}
 use Rattle.network.proofs.Tests.{by-lt}
+use Rattle.ebf.specs.Search.{search}
 use Rattle.route.specs.Ready.{Ready}
 use Rattle.station.specs.Station.{Table, Station, tableIn, station, wordsAt, capacityOf}
 use Rattle.station.specs.Books.{books, net, usage, free}
@@ -22,7 +23,11 @@ use Rattle.station.specs.Units.{flag}
 use Rattle.station.proofs.Formed.{formed-says}
 use Rattle.station.proofs.WordsAt.{words-length}
 use Rattle.booking.specs.Requests.{RequestFits}
+use Rattle.booking.specs.Replies.{replyOf}
+use Rattle.booking.specs.Calls.{booksIn, sought}
+use Rattle.booking.specs.Ready.{Seekable}
 use Rattle.booking.specs.Meaning.{netFor}
+use Rattle.booking.proofs.Meaning.{request-says}
 
 -- a flag is 1 exactly where the units are free
 flag-says : (b f : ℕ) → eqb (flag b f) 1 ≡ leb b f
@@ -118,3 +123,26 @@ module _ (w : List ℕ) (ok : wellFormed w ≡ true) where
             coefficient-some = request .coefficient-least;
             coefficient-most = request .coefficient-most;
           }
+
+-- the same with the numbers, the link words and the flags as the code holds them
+module _ (w units flags work path : List ℕ) (r : Request) (ok : Seekable w units work path r) (whole : length flags ≡ 256)
+    (flagged : (i : ℕ) → i < 256 → getD flags i 0 ≡ flag (r .units) (getD units i 0)) (n k : ℕ) (links : List ℕ) (is-n : n ≡ getD w 0 0)
+    (is-m : k ≡ getD w 1 0) (is-links : links ≡ wordsAt w 3 (5 * k)) where
+  asked : RequestFits (getD w 0 0) r
+  asked = request-says (getD w 0 0) r (ok .request)
+
+  links-are : links ≡ wordsAt w 3 (5 * getD w 1 0)
+  links-are = is-links ∙ ap (λ (j : ℕ). wordsAt w 3 (5 * j)) is-m
+
+  pub search-ready : Ready n k links flags work path r
+  search-ready =
+      rw (links-are, is-n, is-m)
+      (seek-ready w (ok .formed) (r .units) (asked .units-least) units flags (ok .units) whole flagged work path (ok .memory) (ok .buffer) r asked)
+
+  pub search-net : netOf n k links flags ≡ netFor w r
+  search-net = rw (links-are, is-n, is-m) (seek-net w (ok .formed) (r .units) (asked .units-least) units flags (ok .units) whole flagged)
+
+  -- what the search then found is what the books are replied
+  pub reply-is : replyOf (netOf n k links flags) (search (netOf n k links flags) r) ≡ sought (booksIn w) r
+  unfolding sought
+  reply-is = ap (λ (g : Net). replyOf g (search g r)) search-net

@@ -3,3 +3,4 @@ pub mod Replies
 pub mod Calls
 pub mod Ready
 pub mod Meaning
+pub mod Cases

@@ -1,0 +1,209 @@
+-- `booking::calls::admit` meets its contract: the checks in their order, then the search; a grant's path is read back from
+-- the path buffer and stored, and any other answer stores nothing.
+-- Assumes nothing.
+use mathlib.Core.Path.{refl, sym, ap, _∙_}
+use mathlib.Core.List.{List}
+use Prim.Native.Nat.{ℕ}
+use native.Mathlib.Omega.{arith}
+use borrow.Author.Needs.{needs}
+use borrow.Author.Tests.{not-true, not-false}
+use denote.Enum.Declared.{tagOf}
+use lib.ListN.{length}
+use Rattle.station.proofs.ReadCases.{formed-long}
+use Rattle.station.proofs.CircuitCases.{part-length}
+use Rattle.booking.specs.Replies.{Reply, answerOf, pathAfter}
+use Rattle.booking.specs.Calls.{booksIn, sought, booked}
+use Rattle.booking.proofs.Answer.{the-type}
+use Rattle.booking.proofs.CallCases.{fails-5, fails-6, fails-7, fails-8, fails-11, fails-12, searches, ownChecks, admission-is}
+use Rattle.booking.proofs.Granting.{stored-as, unstored, other-case, granted-short, refusal-admitted}
+use Rattle.booking.proofs.calls.admit.Statement.{statement}
+use Rattle.booking.proofs.calls.admit.Tie as tie
+
+check-requires : tie.Need-check-requires
+check-requires c κs = search needs
+
+same-length : tie.Need-same-length
+same-length c = search needs
+
+returns : tie.Need-returns
+returns c =
+    let start = c .before .before .before .before .before .before .before in
+    let w = start .args .area .now in
+    let l = start .args .path .now in
+    refusal-admitted 5 _ l w (start .args .circuit) (start .args .r .units) (fails-5 w (length (start .args .work .now)) (length l) (start .args .r) (ownChecks w (start .args .circuit)) (sought (booksIn w) (start .args .r)) (sym (c .before .before .check .ensures .0) ∙ not-true _ (c .if1 .taken)) ∙ admission-is w _ _ _ _)
+
+same-length-2 : tie.Need-same-length-2
+same-length-2 c = search needs
+
+returns-2 : tie.Need-returns-2
+returns-2 c =
+    let start = c .before .before .before .before .before .before .before .before in
+    let w = start .args .area .now in
+    let l = start .args .path .now in
+    refusal-admitted 6 _ l w (start .args .circuit) (start .args .r .units) (fails-6 w (length (start .args .work .now)) (length l) (start .args .r) (ownChecks w (start .args .circuit)) (sought (booksIn w) (start .args .r)) (sym (c .before .before .before .check .ensures .0) ∙ not-false _ (c .before .if1 .left)) (c .if2 .taken) ∙ admission-is w _ _ _ _)
+
+same-length-3 : tie.Need-same-length-3
+same-length-3 c = search needs
+
+returns-3 : tie.Need-returns-3
+returns-3 c =
+    let start = c .before .before .before .before .before .before .before .before .before in
+    let w = start .args .area .now in
+    let l = start .args .path .now in
+    refusal-admitted 7 _ l w (start .args .circuit) (start .args .r .units) (fails-7 w (length (start .args .work .now)) (length l) (start .args .r) (ownChecks w (start .args .circuit)) (sought (booksIn w) (start .args .r)) (sym (c .before .before .before .before .check .ensures .0) ∙ not-false _ (c .before .before .if1 .left)) (c .before .if2 .left) (c .if3 .taken) ∙ admission-is w _ _ _ _)
+
+slice-read-request-fits : tie.Need-slice-read-request-fits
+slice-read-request-fits c =
+    let w = c .before .before .before .before .before .before .before .before .before .before .args .area .now in
+    omega (arith, formed-long w (sym (c .before .before .before .before .before .check .ensures .0) ∙ not-false _ (c .before .before .before .if1 .left)))
+
+request-fits-requires : tie.Need-request-fits-requires
+request-fits-requires c κs = search needs
+
+same-length-4 : tie.Need-same-length-4
+same-length-4 c = search needs
+
+returns-4 : tie.Need-returns-4
+returns-4 c =
+    let start = c .before .before .before .before .before .before .before .before .before .before .before .before in
+    let w = start .args .area .now in
+    let l = start .args .path .now in
+    refusal-admitted 8 _ l w (start .args .circuit) (start .args .r .units) (fails-8 w (length (start .args .work .now)) (length l) (start .args .r) (ownChecks w (start .args .circuit)) (sought (booksIn w) (start .args .r)) (sym (c .before .before .before .before .before .before .before .check .ensures .0) ∙ not-false _ (c .before .before .before .before .before .if1 .left)) (c .before .before .before .before .if2 .left) (c .before .before .before .if3 .left) (sym (c .before .request-fits .ensures) ∙ not-true _ (c .if4 .taken)) ∙ admission-is w _ _ _ _)
+
+number-fits-requires : tie.Need-number-fits-requires
+number-fits-requires c κs = sym (c .before .before .before .before .before .before .before .before .check .ensures .0) ∙ not-false _ (c .before .before .before .before .before .before .if1 .left)
+
+same-length-5 : tie.Need-same-length-5
+same-length-5 c = search needs
+
+returns-5 : tie.Need-returns-5
+returns-5 c =
+    let start = c .before .before .before .before .before .before .before .before .before .before .before .before .before .before .before in
+    let w = start .args .area .now in
+    let l = start .args .path .now in
+    refusal-admitted 11 _ l w (start .args .circuit) (start .args .r .units) (fails-11 w (length (start .args .work .now)) (length l) (start .args .circuit) (start .args .r) (sym (c .before .before .before .before .before .before .before .before .before .before .check .ensures .0) ∙ not-false _ (c .before .before .before .before .before .before .before .before .if1 .left)) (c .before .before .before .before .before .before .before .if2 .left) (c .before .before .before .before .before .before .if3 .left) (sym (c .before .before .before .before .request-fits .ensures) ∙ not-false _ (c .before .before .before .if4 .left)) (sym (c .before .number-fits .ensures) ∙ not-true _ (c .if5 .taken)))
+
+slice-read-if6 : tie.Need-slice-read-if6
+slice-read-if6 c =
+    let w = c .before .before .before .before .before .before .before .before .before .before .before .before .before .before .before .before .args .area .now in
+    omega (arith, formed-long w (sym (c .before .before .before .before .before .before .before .before .before .before .before .check .ensures .0) ∙ not-false _ (c .before .before .before .before .before .before .before .before .before .if1 .left)))
+
+same-length-6 : tie.Need-same-length-6
+same-length-6 c = search needs
+
+returns-6 : tie.Need-returns-6
+returns-6 c =
+    let start = c .before .before .before .before .before .before .before .before .before .before .before .before .before .before .before .before .before in
+    let w = start .args .area .now in
+    let l = start .args .path .now in
+    refusal-admitted 12 _ l w (start .args .circuit) (start .args .r .units) (fails-12 w (length (start .args .work .now)) (length l) (start .args .circuit) (start .args .r) (sym (c .before .before .before .before .before .before .before .before .before .before .before .before .check .ensures .0) ∙ not-false _ (c .before .before .before .before .before .before .before .before .before .before .if1 .left)) (c .before .before .before .before .before .before .before .before .before .if2 .left) (c .before .before .before .before .before .before .before .before .if3 .left) (sym (c .before .before .before .before .before .before .request-fits .ensures) ∙ not-false _ (c .before .before .before .before .before .if4 .left)) (sym (c .before .before .before .number-fits .ensures) ∙ not-false _ (c .before .before .if5 .left)) (c .if6 .taken))
+
+seek-requires : tie.Need-seek-requires
+seek-requires c κs =
+    record {
+      formed = sym (c .before .before .before .before .before .before .before .before .before .before .before .before .before .before .before .before .before .check .ensures .0) ∙ not-false _ (c .before .before .before .before .before .before .before .before .before .before .before .before .before .before .before .if1 .left);
+      units = c .before .before .before .before .before .before .before .before .before .before .before .before .before .before .before .before .before .check .ensures .1;
+      memory = c .before .before .before .before .before .before .before .before .before .before .before .before .before .before .if2 .left;
+      buffer = c .before .before .before .before .before .before .before .before .before .before .before .before .before .if3 .left;
+      request = sym (c .before .before .before .before .before .before .before .before .before .before .before .request-fits .ensures) ∙ not-false _ (c .before .before .before .before .before .before .before .before .before .before .if4 .left);
+    }
+
+enum-known-answer : tie.Need-enum-known-answer
+enum-known-answer c = search needs
+
+same-length-7 : tie.Need-same-length-7
+same-length-7 c = search needs
+
+same-length-8 : tie.Need-same-length-8
+same-length-8 c = search needs
+
+same-length-9 : tie.Need-same-length-9
+same-length-9 c = search needs
+
+returns-7 : tie.Need-returns-7
+returns-7 c =
+    let start = c .before .before .before .before .before .before .before .before .before .before .before .before .before .before .before .before .before .before .before .before .before .before .before .before .before .before .before .before in
+    let w = start .args .area .now in
+    let l = start .args .path .now in
+    let is = searches w (length (start .args .work .now)) (length l) (start .args .circuit) (start .args .r) (sym (c .before .before .before .before .before .before .before .before .before .before .before .before .before .before .before .before .before .before .before .before .before .before .before .check .ensures .0) ∙ not-false _ (c .before .before .before .before .before .before .before .before .before .before .before .before .before .before .before .before .before .before .before .before .before .if1 .left)) (c .before .before .before .before .before .before .before .before .before .before .before .before .before .before .before .before .before .before .before .before .if2 .left) (c .before .before .before .before .before .before .before .before .before .before .before .before .before .before .before .before .before .before .before .if3 .left) (sym (c .before .before .before .before .before .before .before .before .before .before .before .before .before .before .before .before .before .request-fits .ensures) ∙ not-false _ (c .before .before .before .before .before .before .before .before .before .before .before .before .before .before .before .before .if4 .left)) (sym (c .before .before .before .before .before .before .before .before .before .before .before .before .before .before .number-fits .ensures) ∙ not-false _ (c .before .before .before .before .before .before .before .before .before .before .before .before .before .if5 .left)) (c .before .before .before .before .before .before .before .before .before .before .before .if6 .left) in
+    let found = c .before .before .before .before .before .seek .ensures in
+    let other = other-case (tagOf the-type) (λ g. refl) _ (c .match .keys2) in (
+      found .0 ∙ ap answerOf is,
+      (
+        found .1 ∙ ap (λ (a : Reply). pathAfter a l) is,
+        unstored w (start .args .circuit) (start .args .r .units) (sought (booksIn w) (start .args .r)) (λ g e. other g (found .0 ∙ e)) ∙ ap (booked w (start .args .circuit) (start .args .r .units)) is,
+      ),
+    )
+
+wide-requires : tie.Need-wide-requires
+wide-requires c κs = search needs
+
+part-requires : tie.Need-part-requires
+part-requires c κs =
+    let start = c .before .before .before .before .before .before .before .before .before .before .before .before .before .before .before .before .before .before .before .before .before .before .before .before .before .before .before .before .before .before .before .before .before in
+    let w = start .args .area .now in
+    let l = start .args .path .now in
+    omega (arith, granted-short w (start .args .r) (sym (c .before .before .before .before .before .before .before .before .before .before .before .before .before .before .before .before .before .before .before .before .before .before .before .before .before .before .before .before .check .ensures .0) ∙ not-false _ (c .before .before .before .before .before .before .before .before .before .before .before .before .before .before .before .before .before .before .before .before .before .before .before .before .before .before .if1 .left)) (sym (c .before .before .before .before .before .before .before .before .before .before .before .before .before .before .before .before .before .before .before .before .before .before .request-fits .ensures) ∙ not-false _ (c .before .before .before .before .before .before .before .before .before .before .before .before .before .before .before .before .before .before .before .before .before .if4 .left)) _ (sym (c .before .before .before .before .before .before .before .before .before .before .seek .ensures .0) ∙ c .before .before .before .before .answer .given .1), c .wide .ensures, c .before .before .before .before .before .before .before .before .before .before .before .before .before .before .before .before .before .before .before .before .before .before .before .before .if3 .left, c .before .before .before .before .before .before .before .before .before .before .seek .kept .1)
+
+add-requires : tie.Need-add-requires
+add-requires c κs =
+    let start = c .before .before .before .before .before .before .before .before .before .before .before .before .before .before .before .before .before .before .before .before .before .before .before .before .before .before .before .before .before .before .before .before .before .before in
+    let w = start .args .area .now in
+    let l = start .args .path .now in
+    (formed-long w (sym (c .before .before .before .before .before .before .before .before .before .before .before .before .before .before .before .before .before .before .before .before .before .before .before .before .before .before .before .before .before .check .ensures .0) ∙ not-false _ (c .before .before .before .before .before .before .before .before .before .before .before .before .before .before .before .before .before .before .before .before .before .before .before .before .before .before .before .if1 .left)), (c .before .before .before .before .before .before .before .before .before .before .before .before .before .before .before .before .before .if6 .left, omega (arith, granted-short w (start .args .r) (sym (c .before .before .before .before .before .before .before .before .before .before .before .before .before .before .before .before .before .before .before .before .before .before .before .before .before .before .before .before .before .check .ensures .0) ∙ not-false _ (c .before .before .before .before .before .before .before .before .before .before .before .before .before .before .before .before .before .before .before .before .before .before .before .before .before .before .before .if1 .left)) (sym (c .before .before .before .before .before .before .before .before .before .before .before .before .before .before .before .before .before .before .before .before .before .before .before .request-fits .ensures) ∙ not-false _ (c .before .before .before .before .before .before .before .before .before .before .before .before .before .before .before .before .before .before .before .before .before .before .if4 .left)) _ (sym (c .before .before .before .before .before .before .before .before .before .before .before .seek .ensures .0) ∙ c .before .before .before .before .before .answer .given .1), c .before .wide .ensures, part-length (c .before .before .before .before .before .before .before .before .before .before .before .seek .last .1 .1 .1 .0) 0 (c .before .wide .result) (c .part .ensures))))
+
+same-length-10 : tie.Need-same-length-10
+same-length-10 c = search needs
+
+same-length-11 : tie.Need-same-length-11
+same-length-11 c = search needs
+
+same-length-12 : tie.Need-same-length-12
+same-length-12 c = search needs
+
+returns-8 : tie.Need-returns-8
+returns-8 c =
+    let start = c .before .before .before .before .before .before .before .before .before .before .before .before .before .before .before .before .before .before .before .before .before .before .before .before .before .before .before .before .before .before .before .before .before .before .before .before .before in
+    let w = start .args .area .now in
+    let l = start .args .path .now in
+    let is = searches w (length (start .args .work .now)) (length l) (start .args .circuit) (start .args .r) (sym (c .before .before .before .before .before .before .before .before .before .before .before .before .before .before .before .before .before .before .before .before .before .before .before .before .before .before .before .before .before .before .before .before .check .ensures .0) ∙ not-false _ (c .before .before .before .before .before .before .before .before .before .before .before .before .before .before .before .before .before .before .before .before .before .before .before .before .before .before .before .before .before .before .if1 .left)) (c .before .before .before .before .before .before .before .before .before .before .before .before .before .before .before .before .before .before .before .before .before .before .before .before .before .before .before .before .before .if2 .left) (c .before .before .before .before .before .before .before .before .before .before .before .before .before .before .before .before .before .before .before .before .before .before .before .before .before .before .before .before .if3 .left) (sym (c .before .before .before .before .before .before .before .before .before .before .before .before .before .before .before .before .before .before .before .before .before .before .before .before .before .before .request-fits .ensures) ∙ not-false _ (c .before .before .before .before .before .before .before .before .before .before .before .before .before .before .before .before .before .before .before .before .before .before .before .before .before .if4 .left)) (sym (c .before .before .before .before .before .before .before .before .before .before .before .before .before .before .before .before .before .before .before .before .before .before .before .number-fits .ensures) ∙ not-false _ (c .before .before .before .before .before .before .before .before .before .before .before .before .before .before .before .before .before .before .before .before .before .before .if5 .left)) (c .before .before .before .before .before .before .before .before .before .before .before .before .before .before .before .before .before .before .before .before .if6 .left) in
+    let found = c .before .before .before .before .before .before .before .before .before .before .before .before .before .before .seek .ensures in
+    let grant = c .before .before .before .before .before .before .before .before .answer .given .1 in (
+      sym grant ∙ found .0 ∙ ap answerOf is,
+      (found .1 ∙ ap (λ (a : Reply). pathAfter a l) is, c .before .before .add .ensures ∙ stored-as w (start .args .circuit) (start .args .r .units) _ l (sought (booksIn w) (start .args .r)) (sym (found .0) ∙ grant) _ (found .1) _ (c .before .before .before .before .wide .ensures) _ (c .before .before .before .part .ensures) ∙ ap (booked w (start .args .circuit) (start .args .r .units)) is),
+    )
+
+pub admit-spec : {M : Type 1} → statement M
+admit-spec =
+    tie.close
+    (tie.spec
+    check-requires
+    same-length
+    returns
+    same-length-2
+    returns-2
+    same-length-3
+    returns-3
+    slice-read-request-fits
+    request-fits-requires
+    same-length-4
+    returns-4
+    number-fits-requires
+    same-length-5
+    returns-5
+    slice-read-if6
+    same-length-6
+    returns-6
+    seek-requires
+    enum-known-answer
+    same-length-7
+    same-length-8
+    same-length-9
+    returns-7
+    wide-requires
+    part-requires
+    add-requires
+    same-length-10
+    same-length-11
+    same-length-12
+    returns-8)
