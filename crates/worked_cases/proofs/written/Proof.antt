@@ -1,9 +1,9 @@
--- `search_nets::written` ends and reads within the buffer.
+-- `worked_cases::written` ends and reads within the buffer.
 -- Assumes nothing.
 use Prim.Native.Nat.{_-_, _≤_}
 use borrow.Author.Needs.{needs}
-use Rattle.search_nets.proofs.written.Statement.{statement}
-use Rattle.search_nets.proofs.written.Tie as tie
+use Rattle.worked_cases.proofs.written.Statement.{statement}
+use Rattle.worked_cases.proofs.written.Tie as tie
 
 abbrev Inv-loop : tie.InvT-loop
 Inv-loop path i₀ t3 i = i ≤ 31
@@ -20,11 +20,11 @@ mul-if1 c = search needs
 element-copy-out-if1 : tie.Need-element-copy-out-if1 Inv-loop μ-loop
 element-copy-out-if1 c = search needs
 
-slice-aggregate-write-all : tie.Need-slice-aggregate-write-all Inv-loop μ-loop
-slice-aggregate-write-all c = search needs
+slice-aggregate-text : tie.Need-slice-aggregate-text Inv-loop μ-loop
+slice-aggregate-text c = search needs
 
-write-all-requires : tie.Need-write-all-requires Inv-loop μ-loop
-write-all-requires c κs = search needs
+text-requires : tie.Need-text-requires Inv-loop μ-loop
+text-requires c κs = search needs
 
 mul-number : tie.Need-mul-number Inv-loop μ-loop
 mul-number c = search needs
@@ -56,8 +56,8 @@ written-spec =
     loop-holds
     mul-if1
     element-copy-out-if1
-    slice-aggregate-write-all
-    write-all-requires
+    slice-aggregate-text
+    text-requires
     mul-number
     element-copy-out-number
     number-requires
