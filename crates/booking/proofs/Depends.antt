@@ -3,7 +3,7 @@
 -- Assumes nothing.
 use Prim.Native.Nat.{ℕ}
 use mathlib.Core.Path.{_≡_, ap, ap₂}
-use mathlib.Core.Bool.{Bool, _&&_}
+use mathlib.Core.Bool.{Bool}
 use mathlib.Core.List.{List, [], _∷_, _++_}
 use lib.Dec.{ltb, leb}
 use lib.ListN.{length}
@@ -11,10 +11,11 @@ use Rattle.network.specs.declared.Request.{Request}
 use Rattle.ebf.specs.Alike.{Alike}
 use Rattle.ebf.specs.Search.{search}
 use Rattle.route.proofs.Result.{result-depends}
-use Rattle.station.specs.Station.{Station, station}
+use Rattle.station.specs.Station.{station}
 use Rattle.station.specs.Books.{Books, books, net}
-use Rattle.station.specs.Formed.{sound, wellFormed}
+use Rattle.station.specs.Formed.{wellFormed}
 use Rattle.station.specs.Checks.{Check, _unless_, checked}
+use Rattle.station.proofs.Depends.{formed-depends}
 use Rattle.booking.specs.Requests.{requestFits}
 use Rattle.booking.specs.Replies.{Reply, refuses, releases}
 use Rattle.booking.specs.Calls.{booksIn, sought, numberFits, quote, admission, release}
@@ -51,8 +52,7 @@ module _ (w w' : List ℕ) where
 
   -- equal stations, in areas that are both long enough or both not, decide both
   pub station-decides : leb 3459 (length w) ≡ leb 3459 (length w') → station w ≡ station w' → (wellFormed w ≡ wellFormed w') × (booksIn w ≡ booksIn w')
-  unfolding wellFormed
-  station-decides long same = (ap₂ (λ (b : Bool) (s : Station). b && sound s) long same, ap books same)
+  station-decides long same = (formed-depends w w' long same, ap books same)
 
 -- ---- the search
 -- the granted path and its problem depend on n, which links are usable, the links' ends, delays and costs

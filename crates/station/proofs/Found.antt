@@ -16,7 +16,7 @@ use Rattle.network.proofs.Loops.{first-passes}
 use Rattle.network.proofs.Tests.{by-eq}
 use Rattle.station.specs.Station.{circuitOf, circuitAt, circuits}
 use Rattle.station.specs.Books.{numbers, holds}
-use Rattle.station.specs.Held.{numberAt, foundAt, numbersFrom}
+use Rattle.station.specs.Held.{ListsHeld, numberAt, foundAt, numbersFrom}
 
 -- a circuit's number is the first of its words
 pub circuit-number : (w : List ℕ) (j : ℕ) → circuitAt w j .number ≡ numberAt w j
@@ -107,3 +107,8 @@ listed-apart w j (suc n) h = (
 pub listed-once : (w : List ℕ) (h : ℕ) → Distinct (numbers (circuits w h)) → Distinct (numbersFrom w 0 h)
 listed-once w h once =
     listed-apart w 0 h (λ i i' less low. numbers-once w h once i i' (omega arith) (omega arith) (λ (e : i ≡ i'). omega arith))
+
+-- a listing of circuits whose numbers differ means what document 01 says
+pub listing-means : (w : List ℕ) (h : ℕ) → Distinct (numbers (circuits w h)) → ListsHeld (circuits w h) (numbersFrom w 0 h)
+listing-means w h once =
+    record { count = listed-length w 0 h ∙ sym (held-length w h); held = listed-held w h; once = listed-once w h once }

@@ -17,3 +17,4 @@ pub mod Taken
 pub mod CircuitUnits
 pub mod CheckCases
 pub mod ReadCases
+pub mod Depends

@@ -12,8 +12,8 @@ use Rattle.station.specs.declared.Reading.the-variants.{Refused, Value}
 use Rattle.station.specs.Station.{station, tableIn}
 use Rattle.station.specs.Held.{numbersFrom}
 use Rattle.station.specs.Formed.{wellFormed}
-use Rattle.station.specs.Reads.{listAnswer, listed, freeAnswer, freeIn}
-use Rattle.station.proofs.Found.{held-length}
+use Rattle.station.specs.Reads.{listAnswer, listed, Lists, freeAnswer, freeIn}
+use Rattle.station.proofs.Found.{held-length, listing-means}
 use Rattle.station.proofs.Formed.{formed-says}
 
 module _ (w : List ℕ) (formed : wellFormed w ≡ true) where
@@ -29,15 +29,19 @@ module _ (w : List ℕ) (formed : wellFormed w ≡ true) where
   formed-held = omega (arith, formed-says w formed .sound .few, held-length w (getD w 2 0))
 
 -- ---- listing, into a buffer l
+pub lists : (w : List ℕ) → Lists w
+unfolding station
+lists w formed = listing-means w (getD w 2 0) (formed-says w formed .sound .differ)
+
 module _ (w l : List ℕ) where
-  pub list-unfit : wellFormed w ≡ false → (Refused 5 ≡ listAnswer w (length l)) × (l ≡ listed w l)
+  pub list-unfit : wellFormed w ≡ false → (Refused 5 ≡ listAnswer w (length l)) × ((l ≡ listed w l) × Lists w)
   unfolding listAnswer listed
-  list-unfit e = (rw e refl, rw e refl)
+  list-unfit e = (rw e refl, (rw e refl, lists w))
 
   module _ (formed : wellFormed w ≡ true) where
-    pub list-short : length l < getD w 2 0 → (Refused 14 ≡ listAnswer w (length l)) × (l ≡ listed w l)
+    pub list-short : length l < getD w 2 0 → (Refused 14 ≡ listAnswer w (length l)) × ((l ≡ listed w l) × Lists w)
     unfolding listAnswer listed
-    list-short h = (rw (formed, lt-leb (getD w 2 0) (length l) h) refl, rw (formed, lt-leb (getD w 2 0) (length l) h) refl)
+    list-short h = (rw (formed, lt-leb (getD w 2 0) (length l) h) refl, (rw (formed, lt-leb (getD w 2 0) (length l) h) refl, lists w))
 
     pub list-all : getD w 2 0 ≤ length l
         → (Value (getD w 2 0) ≡ listAnswer w (length l)) × (numbersFrom w 0 (getD w 2 0) ++ drop (getD w 2 0) l ≡ listed w l)

@@ -1,7 +1,8 @@
 -- Listing and free units: what they answer, and the buffer after.
 -- Assumes nothing.
 use Prim.Native.Nat.{ℕ}
-use mathlib.Core.Bool.{cond}
+use mathlib.Core.Path.{_≡_}
+use mathlib.Core.Bool.{true, cond}
 use mathlib.Core.List.{List, [], _∷_, _++_}
 use lib.Dec.{ltb, leb}
 use lib.ListN.{length, getD, drop}
@@ -9,7 +10,7 @@ use Rattle.station.specs.declared.Reading.{Reading}
 use Rattle.station.specs.declared.Reading.the-variants.{Refused, Value}
 use Rattle.station.specs.Station.{station}
 use Rattle.station.specs.Books.{free}
-use Rattle.station.specs.Held.{numbersFrom}
+use Rattle.station.specs.Held.{numbersFrom, ListsHeld}
 use Rattle.station.specs.Formed.{wellFormed}
 use Rattle.station.specs.Checks.{Check, _unless_, checked, pass}
 
@@ -25,6 +26,10 @@ listAnswer w room = checked Refused (listChecks w room) (Value (getD w 2 0))
 unfoldable pub listed : List ℕ → List ℕ → List ℕ
 unfolding wellFormed
 listed w l = cond (pass (listChecks w (length l))) (numbersFrom w 0 (getD w 2 0) ++ drop (getD w 2 0) l) l
+
+-- the numbers written are those of the held circuits
+abbrev pub Lists : List ℕ → Type 0
+Lists w = wellFormed w ≡ true → ListsHeld (station w .held) (numbersFrom w 0 (getD w 2 0))
 
 -- the link's free units, or the refusal's number
 unfoldable pub freeAnswer : List ℕ → ℕ → Reading

@@ -4,7 +4,7 @@ ghost use mathlib.Core.List.{_++_};
 ghost use Prim.Native.Nat.{_≤_};
 ghost use lib.ListN.{length, drop};
 ghost use Rattle.station.specs.Held.{numbersFrom};
-ghost use Rattle.station.specs.Reads.{listAnswer, listed, freeAnswer};
+ghost use Rattle.station.specs.Reads.{listAnswer, listed, Lists, freeAnswer};
 ghost use Rattle.station.specs.Ready.{Room};
 use crate::Reading;
 use crate::check::check;
@@ -24,10 +24,12 @@ fn write_numbers(area: &[u32], h: usize, numbers: &mut [u32])
 }
 
 // 5 and 14 in this order; else the numbers of the held circuits, each once, and how many they are. The words past
-// them keep theirs.
+// them keep theirs. Document 01 leaves the order open: the equation has that of the places, and `means` says what holds
+// in any order.
 pub fn list(area: &[u32], numbers: &mut [u32]) -> Reading
     ensures answer { λ a. ⌜ a ≡ listAnswer (now (area .entry)) (length (now (numbers .entry))) ⌝ }
     ensures numbers { λ _. ⌜ now (numbers .exit) ≡ listed (now (area .entry)) (now (numbers .entry)) ⌝ }
+    ensures means { λ _. ⌜ Lists (now (area .entry)) ⌝ }
 {
     let c = check(area);
     if !c.formed {

@@ -1,0 +1,61 @@
+-- What the checks and the reading calls answer depends on the decoded station alone: words that it is not decoded from,
+-- unused path words and words past the last circuit, make no difference.
+-- Assumes nothing.
+use Prim.Native.Nat.{ℕ, zero, suc, _+_, _<_}
+use mathlib.Core.Path.{_≡_, refl, sym, ap, ap₂, _∙_}
+use mathlib.Core.Bool.{Bool, _&&_}
+use mathlib.Core.List.{List, [], _∷_, head-eq-of-cons-eq, tail-eq-of-cons-eq}
+use native.Mathlib.Omega.{arith}
+use lib.Dec.{ltb, leb}
+use lib.ListN.{length, getD}
+use Rattle.network.proofs.Tests.{by-eq}
+use Rattle.station.specs.Station.{Circuit, Station, circuitOf, circuits, station, tableIn}
+use Rattle.station.specs.Books.{free}
+use Rattle.station.specs.Held.{numberAt, numbersFrom}
+use Rattle.station.specs.Formed.{sound, wellFormed}
+use Rattle.station.specs.Checks.{_unless_, checked}
+use Rattle.station.specs.declared.Reading.the-variants.{Refused, Value}
+use Rattle.station.specs.Reads.{listAnswer, freeAnswer}
+use Rattle.station.proofs.Found.{circuit-number, held-length}
+
+module _ (w w' : List ℕ) (long : leb 3459 (length w) ≡ leb 3459 (length w')) (same : station w ≡ station w') where
+  pub formed-depends : wellFormed w ≡ wellFormed w'
+  unfolding wellFormed
+  formed-depends = ap₂ _&&_ long (ap sound same)
+
+  -- how many are held, and how many links there are
+  pub held-depends : getD w 2 0 ≡ getD w' 2 0
+  unfolding station
+  held-depends =
+      sym (held-length w (getD w 2 0)) ∙ ap (λ (s : Station). length (s .held)) same ∙ held-length w' (getD w' 2 0)
+
+  pub links-depend : getD w 1 0 ≡ getD w' 1 0
+  unfolding station tableIn
+  links-depend = ap (λ (s : Station). s .table .links) same
+
+  pub list-depends : (room : ℕ) → listAnswer w room ≡ listAnswer w' room
+  unfolding listAnswer
+  list-depends room =
+      ap₂ (λ (formed : Bool) (h : ℕ). checked Refused ((5 unless formed) ∷ (14 unless leb h room) ∷ []) (Value h)) formed-depends held-depends
+
+  pub free-depends : (i : ℕ) → freeAnswer w i ≡ freeAnswer w' i
+  unfolding freeAnswer station tableIn
+  free-depends i =
+      ap₂ (λ (formed : Bool) (s : Station). checked Refused ((5 unless formed) ∷ (15 unless ltb i (s .table .links)) ∷ []) (Value (free s i)))
+      formed-depends same
+
+-- equal circuits have equal numbers at each place
+numbers-at : (w w' : List ℕ) (h : ℕ) → circuits w h ≡ circuits w' h → (j : ℕ) → j < h → numberAt w j ≡ numberAt w' j
+numbers-at w w' zero e j low = absurd (omega arith)
+numbers-at w w' (suc h) e j low =
+    by-eq j h
+    (λ q. rw q (sym (circuit-number w h) ∙ ap (λ (c : Circuit). c .number) (head-eq-of-cons-eq e) ∙ circuit-number w' h))
+    (λ q. numbers-at w w' h (tail-eq-of-cons-eq e) j (omega arith))
+
+numbers-from : (w w' : List ℕ) (j n : ℕ) → ((i : ℕ) → i < j + n → numberAt w i ≡ numberAt w' i) → numbersFrom w j n ≡ numbersFrom w' j n
+numbers-from w w' j zero each = refl
+numbers-from w w' j (suc n) each = ap₂ _∷_ (each j (omega arith)) (numbers-from w w' (suc j) n (λ i low. each i (omega arith)))
+
+-- the numbers that a listing writes
+pub listed-depends : (w w' : List ℕ) (h : ℕ) → circuits w h ≡ circuits w' h → numbersFrom w 0 h ≡ numbersFrom w' 0 h
+listed-depends w w' h e = numbers-from w w' 0 h (λ i low. numbers-at w w' h e i (omega arith))
