@@ -1,10 +1,11 @@
 -- What a call does to the area. A granted admission has passed every check, so its path makes a circuit that fits, and
 -- the area stays well formed with the circuit more; a release takes out the one circuit with its number.
 -- Assumes nothing.
-use Prim.Native.Nat.{ℕ, _≤_, _<_}
-use mathlib.Core.Path.{_≡_, refl, sym, _∙_, subst}
+use Prim.Native.Nat.{ℕ, suc, _≤_, _<_}
+use mathlib.Core.Path.{_≡_, refl, sym, ap, _∙_, subst}
 use mathlib.Core.Bool.{true}
 use mathlib.Core.List.{List}
+use mathlib.Core.Logic.{inl, inr}
 use native.Mathlib.Omega.{arith}
 use lib.Dec.{ltb, leb}
 use lib.ListN.{length, getD}
@@ -23,12 +24,13 @@ use Rattle.station.proofs.Formed.{formed-says}
 use Rattle.station.proofs.Found.{holds-found}
 use Rattle.station.proofs.Added.{added-long, added-untouched, added-station}
 use Rattle.station.proofs.Removed.{removed-long, removed-untouched, removed-station}
+use Rattle.station.proofs.ReadCases.{links-few, held-few}
 use Rattle.station.proofs.Keeps.{sound-added, sound-removed, without-one, without-gone}
 use Rattle.booking.specs.Requests.{RequestFits, requestFits}
 use Rattle.booking.specs.Replies.{Reply, refuses, grants, releases}
 use Rattle.booking.specs.Calls.{booksIn, sought, numberFits, admitChecks, admission, booked, releaseChecks, release, cleared}
-use Rattle.booking.specs.Meaning.{Answered, past, through, Grant, by-one, by-two, searchRules, NumberFits, netFor}
-use Rattle.booking.proofs.Passed.{all-pass, granted-not-refused, released-not-refused, whole-path, walk-usable, some-link, count-is, links-few, held-few, held-number}
+use Rattle.booking.specs.Meaning.{Answered, Grant, by-one, by-two, searchRules, NumberFits, netFor}
+use Rattle.booking.proofs.Passed.{all-pass, granted-not-refused, released-not-refused, whole-path, walk-usable, some-link, count-is, held-number}
 use Rattle.booking.proofs.Meaning.{request-says, number-says, area-searchable, sought-means}
 
 -- a granted path is a usable path
@@ -37,8 +39,11 @@ grant-path (by-one p h) = h .2 .solves .path
 grant-path (by-two p h) = h .3 .solves .path
 
 -- a search that ends with a grant
-searched : {g : Net} {r : Request} {k d x : ℕ} {p : List ℕ} → Answered (Grant g r) (searchRules g r) (grants k d x p) → Grant g r (grants k d x p)
-searched (past n (past m (through h))) = h
+searched : (g : Net) (r : Request) (k d x : ℕ) (p : List ℕ) → Answered (Grant g r) (searchRules g r) (grants k d x p) → Grant g r (grants k d x p)
+unfolding Answered
+searched g r k d x p (inl (h, e)) = absurd (granted-not-refused k d x p 9 (sym e))
+searched g r k d x p (inr (n, inl (h, e))) = absurd (granted-not-refused k d x p 10 (sym e))
+searched g r k d x p (inr (n, inr (m, h))) = h
 
 -- ---- a granted admission
 -- the circuit that a grant makes
@@ -71,7 +76,7 @@ module _ (w : List ℕ) (work room c : ℕ) (r : Request) (k d x : ℕ) (p : Lis
         request = fits;
         number = number-says (booksIn w) c (fst-of (numberFits (booksIn w) c) _ e11);
         room = ltb-true (booksIn w .count) 64 (fst-of (ltb (booksIn w .count) 64) _ e12);
-        grant = searched (subst (λ (a : Reply). Answered (Grant (netFor w r) r) (searchRules (netFor w r) r) a) (h .1) (sought-means w r formed fits));
+        grant = searched (netFor w r) r k d x p (subst (Answered (Grant (netFor w r) r) (searchRules (netFor w r) r)) (h .1) (sought-means w r formed fits));
       }
 
   path : IsPath (netFor w r) (r .source) (r .target) p
@@ -108,6 +113,11 @@ module _ (w : List ℕ) (work room c : ℕ) (r : Request) (k d x : ℕ) (p : Lis
   admitted-station =
       added-station w (circuitFor c r p) (admission-granted .formed .long) (links-few w (admission-granted .formed))
       (omega (arith, count-is w, admission-granted .room)) short
+
+  -- one more is held; since 12 is refused only where 64 are, 64 can be held
+  pub admitted-count : booksIn (booked w c (r .units) (grants k d x p)) .count ≡ suc (booksIn w .count)
+  unfolding books
+  admitted-count = ap (λ (s : Station). length (s .held)) admitted-station
 
   granted-formed : WellFormed (booked w c (r .units) (grants k d x p))
   unfolding booked books

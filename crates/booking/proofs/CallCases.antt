@@ -2,23 +2,23 @@
 -- checks it is what the search replies.
 -- Assumes nothing.
 use Prim.Native.Nat.{ℕ, _≤_, _<_}
-use mathlib.Core.Path.{_≡_, refl, sym, ap, _∙_}
-use mathlib.Core.Bool.{Bool, true, false, not, _&&_}
+use mathlib.Core.Path.{_≡_, refl, _∙_}
+use mathlib.Core.Bool.{true, false}
 use mathlib.Core.List.{List, [], _∷_, _++_}
-use native.Mathlib.Omega.{arith}
 use lib.Dec.{ltb}
-use lib.ListN.{length, getD}
+use lib.ListN.{getD}
 use borrow.Author.Tests.{le-leb, lt-leb, lt-ltb, le-ltb}
 use Rattle.network.specs.declared.Request.{Request}
-use Rattle.station.specs.Station.{station, tableIn, circuits}
-use Rattle.station.specs.Books.{Books, books, holds}
+use Rattle.station.specs.Station.{station, tableIn}
+use Rattle.station.specs.Books.{books}
 use Rattle.station.specs.Held.{foundAt}
 use Rattle.station.specs.Formed.{inRange, wellFormed}
 use Rattle.station.specs.Checks.{Check, _unless_, checked}
-use Rattle.station.proofs.Found.{held-length, holds-found}
+use Rattle.station.proofs.Found.{holds-found}
+use Rattle.booking.proofs.Passed.{count-is}
 use Rattle.booking.specs.Requests.{requestFits}
 use Rattle.booking.specs.Replies.{Reply, refuses, releases}
-use Rattle.booking.specs.Calls.{booksIn, numberFits, quoteChecks, admitChecks, sought, quote, admission, release}
+use Rattle.booking.specs.Calls.{booksIn, numberFits, quoteChecks, sought, quote, admission, release}
 
 -- ---- the checks that a quote and an admission share, whatever follows them
 module _ (w : List ℕ) (work room : ℕ) (r : Request) (more : List Check) (a : Reply) where
@@ -60,11 +60,7 @@ admission-is w work room c r = refl
 
 -- ---- what an admission asks besides
 module _ (w : List ℕ) where
-  -- how many are held, and whether a number is
-  count-is : booksIn w .count ≡ getD w 2 0
-  unfolding books station
-  count-is = held-length w (getD w 2 0)
-
+  -- whether a number is held
   held-is : (c : ℕ) → booksIn w .holds c ≡ ltb (foundAt w (getD w 2 0) c) (getD w 2 0)
   unfolding books station
   held-is c = holds-found w (getD w 2 0) c
@@ -90,10 +86,10 @@ module _ (w : List ℕ) where
     fails-11 e = rw (← own-left, e) refl
 
     pub fails-12 : numberFits (booksIn w) c ≡ true → 64 ≤ getD w 2 0 → refuses 12 ≡ admission w work room c r
-    fails-12 e high = rw (← own-left, e, count-is, le-ltb (getD w 2 0) 64 high) refl
+    fails-12 e high = rw (← own-left, e, count-is w, le-ltb (getD w 2 0) 64 high) refl
 
     pub searches : numberFits (booksIn w) c ≡ true → getD w 2 0 < 64 → sought (booksIn w) r ≡ admission w work room c r
-    searches e low = rw (← own-left, e, count-is, lt-ltb (getD w 2 0) 64 low) refl
+    searches e low = rw (← own-left, e, count-is w, lt-ltb (getD w 2 0) 64 low) refl
 
   -- ---- release
   pub release-unfit : (c : ℕ) → wellFormed w ≡ false → refuses 5 ≡ release w c

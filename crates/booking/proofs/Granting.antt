@@ -1,10 +1,11 @@
--- What the code's enum says of a reply, and what a granted path in the buffer is.
+-- What the code's enum says of a reply, what a granted path in the buffer is, and what a quote and an admission promise at
+-- a return: the reply that the code came to is the call's, and the call's means what the rules say.
 -- Assumes nothing.
 use Prim.Native.Nat.{ℕ, _≤_, _<_}
 use mathlib.Core.Path.{_≡_, refl, ap, _∙_}
 use mathlib.Core.Bool.{true}
 use mathlib.Core.List.{List, [], _∷_, _++_}
-use mathlib.Core.Logic.{⊎-elim}
+use mathlib.Core.Logic.{inl, inr, ⊎-elim}
 use native.Mathlib.Nat.{zero-add}
 use types.Run.{OneOf}
 use native.Mathlib.Omega.{arith}
@@ -22,12 +23,12 @@ use Rattle.station.specs.Moves.{added}
 use Rattle.station.proofs.Formed.{formed-says}
 use Rattle.station.proofs.WordsAt.{words-list}
 use Rattle.booking.specs.declared.Answer.{Answer}
-use Rattle.booking.specs.declared.Answer.the-variants.{Refused, Granted, Released}
+use Rattle.booking.specs.declared.Answer.the-variants.{Refused, Granted}
 use Rattle.booking.specs.Replies.{Reply, refuses, grants, releases, answerOf, told, replyOf, pathAfter}
 use Rattle.booking.specs.Requests.{requestFits}
-use Rattle.booking.specs.Calls.{booksIn, sought, booked}
-use Rattle.booking.specs.Meaning.{Answered, by, past, through, Grant as Means, by-one, by-two, searchRules, netFor}
-use Rattle.booking.proofs.Meaning.{request-says, area-searchable, sought-means}
+use Rattle.booking.specs.Calls.{booksIn, sought, quote, admission, booked}
+use Rattle.booking.specs.Meaning.{Answered, Grant as Means, by-one, by-two, searchRules, netFor, Quoted, Admitted}
+use Rattle.booking.proofs.Meaning.{request-says, area-searchable, sought-means, quote-means, admission-means}
 
 -- the search's answer, numbered, is the reply's
 pub told-reply : (g : Net) (o : Outcome) → told (route.answerOf g o) ≡ answerOf (replyOf g o)
@@ -81,12 +82,12 @@ module _ (g : Net) (r : Request) (ends : Ends g) (few : g .nodes ≤ 32) (source
   short p path = omega (arith, path-short g ends (r .source) (r .target) source p path)
 
   links-short : (a : Reply) → Answered (Means g r) (searchRules g r) a → (h : Grant) → answerOf a ≡ Granted h → h .links ≤ 31
-  unfolding answerOf
-  links-short a (by none) h e = absurd (let z : _≡_ {A = ℕ} 0 1 = cc in omega arith)
-  links-short a (past some (by none)) h e = absurd (let z : _≡_ {A = ℕ} 0 1 = cc in omega arith)
-  links-short a (past some (past solved (through (by-one p best)))) h e =
+  unfolding answerOf Answered
+  links-short a (inl (none, is)) h e = absurd (let z : _≡_ {A = ℕ} 0 1 = cc in omega arith)
+  links-short a (inr (some, inl (none, is))) h e = absurd (let z : _≡_ {A = ℕ} 0 1 = cc in omega arith)
+  links-short a (inr (some, inr (solved, by-one p best))) h e =
       let many : h .links ≡ length p = cc in omega (arith, short p (best .2 .solves .path))
-  links-short a (past some (past solved (through (by-two p best)))) h e =
+  links-short a (inr (some, inr (solved, by-two p best))) h e =
       let many : h .links ≡ length p = cc in omega (arith, short p (best .3 .solves .path))
 
 pub granted-short : (w : List ℕ) (r : Request) → wellFormed w ≡ true → requestFits (getD w 0 0) r ≡ true
@@ -99,12 +100,47 @@ granted-short w r formed request g =
     let ok = area-searchable w r whole fits in
     links-short (netFor w r) r (ok .ends) (ok .few) (ok .source) (sought (booksIn w) r) (sought-means w r whole fits) g
 
--- ---- a refusal: the answer is its number, and no lent word changes
-pub refusal-quoted : (k : ℕ) (a : Reply) (l : List ℕ) → refuses k ≡ a → (Refused k ≡ answerOf a) × (l ≡ pathAfter a l)
-unfolding answerOf pathAfter
-refusal-quoted k a l e = (ap answerOf e, ap (λ (b : Reply). pathAfter b l) e)
+-- ---- a quote's return: the answer, the path buffer after and the meaning, by the reply that the code came to
+module _ (w : List ℕ) (work : ℕ) (l : List ℕ) (r : Request) where
+  -- what the contract says of an answer x and a buffer l'
+  abbrev pub QuotedAs : Answer → List ℕ → Type 0
+  QuotedAs x l' =
+      let a = quote w work (length l) r in
+      (x ≡ answerOf a) × ((l' ≡ pathAfter a l) × Quoted w work (length l) r a)
 
-pub refusal-admitted : (k : ℕ) (a : Reply) (l w : List ℕ) (c u : ℕ) → refuses k ≡ a
-    → (Refused k ≡ answerOf a) × ((l ≡ pathAfter a l) × (w ≡ booked w c u a))
-unfolding answerOf pathAfter booked
-refusal-admitted k a l w c u e = (ap answerOf e, (ap (λ (b : Reply). pathAfter b l) e, ap (λ (b : Reply). booked w c u b) e))
+  -- it holds by any reply that is the quote's
+  pub quoted-as : (a : Reply) → a ≡ quote w work (length l) r → (x : Answer) → x ≡ answerOf a → (l' : List ℕ) → l' ≡ pathAfter a l
+      → QuotedAs x l'
+  quoted-as a is x answers l' holds =
+      (answers ∙ ap answerOf is, (holds ∙ ap (λ (b : Reply). pathAfter b l) is, quote-means w work (length l) r))
+
+  -- a refusal answers its number and changes no lent word
+  pub refusal-quoted : (k : ℕ) → refuses k ≡ quote w work (length l) r → QuotedAs (Refused k) l
+  unfolding answerOf pathAfter
+  refusal-quoted k is = quoted-as (refuses k) is (Refused k) refl l refl
+
+-- ---- an admission's return: the area after as well
+module _ (w : List ℕ) (work : ℕ) (l : List ℕ) (c : ℕ) (r : Request) where
+  -- what the contract says of an answer x, a buffer l' and an area w'
+  abbrev pub AdmittedAs : Answer → List ℕ → List ℕ → Type 0
+  AdmittedAs x l' w' =
+      let a = admission w work (length l) c r in
+      (x ≡ answerOf a) × ((l' ≡ pathAfter a l) × ((w' ≡ booked w c (r .units) a) × Admitted w work (length l) c r a))
+
+  -- it holds by any reply that is the admission's
+  pub admitted-as : (a : Reply) → a ≡ admission w work (length l) c r → (x : Answer) → x ≡ answerOf a
+      → (l' : List ℕ) → l' ≡ pathAfter a l
+      → (w' : List ℕ) → w' ≡ booked w c (r .units) a
+      → AdmittedAs x l' w'
+  admitted-as a is x answers l' holds w' stored = (
+    answers ∙ ap answerOf is,
+    (
+      holds ∙ ap (λ (b : Reply). pathAfter b l) is,
+      (stored ∙ ap (booked w c (r .units)) is, admission-means w work (length l) c r),
+    ),
+  )
+
+  -- a refusal answers its number and changes no lent word
+  pub refusal-admitted : (k : ℕ) → refuses k ≡ admission w work (length l) c r → AdmittedAs (Refused k) l w
+  unfolding answerOf pathAfter booked
+  refusal-admitted k is = admitted-as (refuses k) is (Refused k) refl l refl w refl

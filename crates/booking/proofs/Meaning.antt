@@ -4,7 +4,7 @@
 use Prim.Native.Nat.{ℕ, _≤_, _<_}
 use mathlib.Core.Path.{_≡_, refl, sym, _∙_}
 use mathlib.Core.Bool.{Bool, true, false, cond, not, true≢false}
-use mathlib.Core.List.{List, _∷_}
+use mathlib.Core.List.{List, [], _∷_}
 use mathlib.Core.Logic.{_⊎_, inl, inr}
 use native.Mathlib.Omega.{arith}
 use lib.Dec.{ltb, leb, eqb}
@@ -22,7 +22,7 @@ use Rattle.station.proofs.Formed.{both, range-says, range-test, formed-says, fo
 use Rattle.booking.specs.Requests.{RequestFits, requestFits}
 use Rattle.booking.specs.Replies.{Reply, refuses, replyOf}
 use Rattle.booking.specs.Calls.{booksIn, sought, numberFits, quote, admission, release}
-use Rattle.booking.specs.Meaning.{Rule, _when_, Answered, by, past, through, Grant, by-one, by-two, searchRules, NumberFits, netFor, Quoted, Admitted, Cleared}
+use Rattle.booking.specs.Meaning.{Rule, _when_, Answered, Grant, by-one, by-two, searchRules, NumberFits, netFor, Quoted, Admitted, Cleared}
 
 -- ---- a request's ranges, and a circuit number's: the test says what the statement says
 module _ (n : ℕ) (r : Request) where
@@ -74,30 +74,33 @@ module _ (o : Books) (c : ℕ) where
   unfolding numberFits
   number-test h = both (inRange 1 65535 c) _ (range-test 1 65535 c (h .least) (h .most)) (rw (h .new))
 
--- ---- one check
--- a test that fails just where its rule applies
-check : {G : Reply → Type 0} {rs : List Rule} {a : Reply} {k : ℕ} {P : Type 0} (b : Bool) → (b ≡ true → P → ⊥) → (b ≡ false → P)
-    → (b ≡ true → Answered G rs a)
-    → Answered G ((k when P) ∷ rs) (cond b a (refuses k))
-check true passes fails on = past (passes refl) (on refl)
-check false passes fails on = by (fails refl)
+-- ---- one check, before the rules rs with the reply a
+module _ (G : Reply → Type 0) (rs : List Rule) (a : Reply) (k : ℕ) where
+  -- a test that fails just where its rule applies
+  check : {P : Type 0} (b : Bool) → (b ≡ true → P → ⊥) → (b ≡ false → P) → (b ≡ true → Answered G rs a)
+      → Answered G ((k when P) ∷ rs) (cond b a (refuses k))
+  unfolding Answered
+  check true passes fails on = inr (passes refl, on refl)
+  check false passes fails on = inl (fails refl, refl)
 
--- a rule that applies where a statement does not hold, with the statement's test
-unmet : {G : Reply → Type 0} {rs : List Rule} {a : Reply} {k : ℕ} {P : Type 0} (b : Bool) → (b ≡ true → P) → (P → b ≡ true)
-    → (P → Answered G rs a)
-    → Answered G ((k when (P → ⊥)) ∷ rs) (cond b a (refuses k))
-unmet b says test on =
-    check b (λ e lacks. lacks (says e)) (λ e h. true≢false (sym (test h) ∙ e)) (λ e. on (says e))
+  -- a rule that applies where a statement does not hold, with the statement's test
+  unmet : {P : Type 0} (b : Bool) → (b ≡ true → P) → (P → b ≡ true) → (P → Answered G rs a)
+      → Answered G ((k when (P → ⊥)) ∷ rs) (cond b a (refuses k))
+  unmet b says test on =
+      check b (λ e lacks. lacks (says e)) (λ e h. true≢false (sym (test h) ∙ e)) (λ e. on (says e))
 
--- a rule that applies where a number is too small
-short : {G : Reply → Type 0} {rs : List Rule} {a : Reply} {k : ℕ} (least n : ℕ) → Answered G rs a
-    → Answered G ((k when n < least) ∷ rs) (cond (leb least n) a (refuses k))
-short least n on = check (leb least n) (λ e low. omega (arith, leb-true least n e)) (leb-false least n) (λ e. on)
+  -- a rule that applies where a number is too small
+  short : (least n : ℕ) → Answered G rs a → Answered G ((k when n < least) ∷ rs) (cond (leb least n) a (refuses k))
+  short least n on = check (leb least n) (λ e low. omega (arith, leb-true least n e)) (leb-false least n) (λ e. on)
 
--- a rule that applies where a number is too great
-full : {G : Reply → Type 0} {rs : List Rule} {a : Reply} {k : ℕ} (n most : ℕ) → Answered G rs a
-    → Answered G ((k when most ≤ n) ∷ rs) (cond (ltb n most) a (refuses k))
-full n most on = check (ltb n most) (λ e high. omega (arith, ltb-true n most e)) (ltb-false n most) (λ e. on)
+  -- a rule that applies where a number is too great
+  full : (n most : ℕ) → Answered G rs a → Answered G ((k when most ≤ n) ∷ rs) (cond (ltb n most) a (refuses k))
+  full n most on = check (ltb n most) (λ e high. omega (arith, ltb-true n most e)) (ltb-false n most) (λ e. on)
+
+-- past every rule the reply is as G says
+no-rule : (G : Reply → Type 0) (a : Reply) → G a → Answered G [] a
+unfolding Answered
+no-rule G a h = h
 
 -- ---- the search
 -- a well-formed area and a request that fits may be searched
@@ -127,14 +130,14 @@ module _ (g : Net) (r : Request) where
 
   -- every outcome is one of the two refusals or a grant
   replied : (o : Outcome) → Result g r o → Answered (Grant g r) (searchRules g r) (replyOf g o)
-  unfolding replyOf
-  replied no-path h = by (h .nowhere .0 refl)
-  replied no-solution h = past (λ lacks. never (h .nowhere .1 lacks)) (by (h .unsolved .0 refl))
+  unfolding replyOf Answered
+  replied no-path h = inl (h .nowhere .0 refl, refl)
+  replied no-solution h = inr (λ lacks. never (h .nowhere .1 lacks), inl (h .unsolved .0 refl, refl))
     where
       never : no-solution ≡ no-path → ⊥
       never e = let z : _≡_ {A = ℕ} 0 1 = cc in omega arith
   replied (granted k p) h =
-      past (λ lacks. nowhere (h .nowhere .1 lacks)) (past (λ lacks. unsolved (h .unsolved .1 lacks)) (through (grant k p h (h .no-other k p refl))))
+      inr (λ lacks. nowhere (h .nowhere .1 lacks), inr (λ lacks. unsolved (h .unsolved .1 lacks), grant k p h (h .no-other k p refl)))
     where
       nowhere : granted k p ≡ no-path → ⊥
       nowhere e = let z : _≡_ {A = ℕ} 0 1 = cc in omega arith
@@ -154,27 +157,27 @@ sought-means w r formed fits =
 pub quote-means : (w : List ℕ) (work room : ℕ) (r : Request) → Quoted w work room r (quote w work room r)
 unfolding quote
 quote-means w work room r =
-    unmet (wellFormed w) (formed-says w) (formed-test w) λ formed.
-    short 16384 work
-    (short 31 room
-    (unmet (requestFits (booksIn w .table .nodes) r) (request-says _ r) (request-test _ r) λ fits.
+    unmet _ _ _ _ (wellFormed w) (formed-says w) (formed-test w) λ formed.
+    short _ _ _ _ 16384 work
+    (short _ _ _ _ 31 room
+    (unmet _ _ _ _ (requestFits (booksIn w .table .nodes) r) (request-says _ r) (request-test _ r) λ fits.
     sought-means w r formed fits))
 
 -- every reply of an admission
 pub admission-means : (w : List ℕ) (work room c : ℕ) (r : Request) → Admitted w work room c r (admission w work room c r)
 unfolding admission
 admission-means w work room c r =
-    unmet (wellFormed w) (formed-says w) (formed-test w) λ formed.
-    short 16384 work
-    (short 31 room
-    (unmet (requestFits (booksIn w .table .nodes) r) (request-says _ r) (request-test _ r) λ fits.
-    unmet (numberFits (booksIn w) c) (number-says _ c) (number-test _ c) λ new.
-    full (booksIn w .count) 64 (sought-means w r formed fits)))
+    unmet _ _ _ _ (wellFormed w) (formed-says w) (formed-test w) λ formed.
+    short _ _ _ _ 16384 work
+    (short _ _ _ _ 31 room
+    (unmet _ _ _ _ (requestFits (booksIn w .table .nodes) r) (request-says _ r) (request-test _ r) λ fits.
+    unmet _ _ _ _ (numberFits (booksIn w) c) (number-says _ c) (number-test _ c) λ new.
+    full _ _ _ _ (booksIn w .count) 64 (sought-means w r formed fits)))
 
 -- every reply of a release
 pub release-means : (w : List ℕ) (c : ℕ) → Cleared w c (release w c)
 unfolding release
 release-means w c =
-    unmet (wellFormed w) (formed-says w) (formed-test w) λ formed.
-    check (booksIn w .holds c) (λ e lacks. true≢false (sym e ∙ lacks)) (λ e. e) λ e.
-    through refl
+    unmet _ _ _ _ (wellFormed w) (formed-says w) (formed-test w) λ formed.
+    check _ _ _ _ (booksIn w .holds c) (λ e lacks. true≢false (sym e ∙ lacks)) (λ e. e) λ e.
+    no-rule _ _ refl

@@ -12,9 +12,9 @@ use borrow.Author.Tests.{eqb-true}
 use Rattle.network.specs.Lists.{All, memb}
 use Rattle.network.specs.Net.{Net, Walk, IsPath}
 use Rattle.network.proofs.Tests.{by-bool}
-use Rattle.station.specs.Station.{Table, Circuit, headOf, station, tableIn}
+use Rattle.station.specs.Station.{Table, Circuit, headOf, station}
 use Rattle.station.specs.Books.{Books, holds, books, net, whole}
-use Rattle.station.specs.Formed.{CircuitFits, WellFormed}
+use Rattle.station.specs.Formed.{CircuitFits}
 use Rattle.station.specs.Checks.{Check, checked, pass}
 use Rattle.station.proofs.Found.{held-length}
 use Rattle.booking.specs.Replies.{Reply, refuses, grants, releases}
@@ -62,14 +62,6 @@ some-link (i ∷ p) h = omega arith
 pub count-is : (w : List ℕ) → booksIn w .count ≡ getD w 2 0
 unfolding books station
 count-is w = held-length w (getD w 2 0)
-
-pub links-few : (w : List ℕ) → WellFormed w → getD w 1 0 ≤ 256
-unfolding station tableIn
-links-few w h = h .sound .table .links-most
-
-pub held-few : (w : List ℕ) → WellFormed w → getD w 2 0 ≤ 64
-unfolding station
-held-few w h = omega (arith, held-length w (getD w 2 0), h .sound .few)
 
 -- a held number is in its range
 pub held-number : (t : Table) (l : List Circuit) (k : ℕ) → All (CircuitFits t) l → holds l k ≡ true → (1 ≤ k) × (k ≤ 65535)

@@ -1,7 +1,7 @@
 -- A search on the words of a well-formed area is a search on the network that the request sees: the flags say which
 -- links have the units free, and past the last link there are neither flags nor capacity.
 -- Assumes nothing.
-use Prim.Native.Nat.{ℕ, zero, suc, _+_, _*_, _-_, _≤_, _<_}
+use Prim.Native.Nat.{ℕ, _*_, _≤_, _<_}
 use mathlib.Core.Path.{_≡_, refl, sym, ap, _∙_}
 use mathlib.Core.Bool.{Bool, true, false, cond}
 use mathlib.Core.List.{List}
@@ -15,8 +15,8 @@ use Rattle.network.specs.declared.Request.{Request}
 use Rattle.network.proofs.Tests.{by-lt}
 use Rattle.ebf.specs.Search.{search}
 use Rattle.route.specs.Ready.{Ready}
-use Rattle.station.specs.Station.{Table, Station, tableIn, station, wordsAt, capacityOf}
-use Rattle.station.specs.Books.{books, net, usage, free}
+use Rattle.station.specs.Station.{tableIn, station, wordsAt}
+use Rattle.station.specs.Books.{books, net, free}
 use Rattle.station.specs.Formed.{WellFormed, wellFormed, TableFits}
 use Rattle.station.specs.Reads.{freeIn}
 use Rattle.station.specs.Units.{flag}

@@ -127,11 +127,11 @@ cases =
     ∷ []
 
 -- with enough work memory and path buffer, the reply is one that the call may give
-abbrev pub Holds : List ℕ → Asked → Reply → Type 1
+abbrev pub Holds : List ℕ → Asked → Reply → Type 0
 Holds w (quoting r) a = Quoted w 16384 31 r a
 Holds w (admitting c r) a = Admitted w 16384 31 c r a
 
-abbrev pub CaseHolds : Case → Type 1
+abbrev pub CaseHolds : Case → Type 0
 CaseHolds c = Holds (c .area) (c .asked) (c .reply)
 
 -- ---- the figures that document 01 gives beside the replies

@@ -2,14 +2,14 @@
 -- Assumes nothing.
 use Prim.Native.Nat.{ℕ, _≤_, _<_}
 use mathlib.Core.Path.{_≡_}
-use mathlib.Core.Bool.{Bool, true, false}
+use mathlib.Core.Bool.{false}
 use mathlib.Core.List.{List, [], _∷_, _++_}
+use mathlib.Core.Logic.{_⊎_}
 use Rattle.network.specs.Net.{Net, sum}
 use Rattle.network.specs.Problem.{NoPath}
 use Rattle.network.specs.declared.Request.{Request}
 use Rattle.route.specs.Result.{Unsolved, GrantedByOne, GrantedByTwo}
-use Rattle.station.specs.Station.{station}
-use Rattle.station.specs.Books.{Books, books, net}
+use Rattle.station.specs.Books.{Books, net}
 use Rattle.station.specs.Formed.{WellFormed}
 use Rattle.booking.specs.Requests.{RequestFits}
 use Rattle.booking.specs.Replies.{Reply, refuses, grants, releases}
@@ -25,10 +25,9 @@ abbrev pub _when_ : ℕ → Type 0 → Rule
 n when p = record { number = n; applies = p }
 
 -- a call is refused by the first rule that applies; where none does, its reply is as G says
-pub data Answered (G : Reply → Type 0) : List Rule → Reply → Type 1 where
-  by : {r : Rule} {rs : List Rule} → r .applies → Answered G (r ∷ rs) (refuses (r .number))
-  past : {r : Rule} {rs : List Rule} {a : Reply} → (r .applies → ⊥) → Answered G rs a → Answered G (r ∷ rs) a
-  through : {a : Reply} → G a → Answered G [] a
+unfoldable pub Answered : (Reply → Type 0) → List Rule → Reply → Type 0
+Answered G [] a = G a
+Answered G (r ∷ rs) a = (r .applies × (a ≡ refuses (r .number))) ⊎ ((r .applies → ⊥) × Answered G rs a)
 
 module _ (g : Net) (r : Request) where
   -- problem 1 with a best solution of problem one; or problem 2, where problem one has none, with a best solution of
@@ -41,7 +40,7 @@ module _ (g : Net) (r : Request) where
   abbrev pub searchRules : List Rule
   searchRules = (9 when NoPath g (r .source) (r .target)) ∷ (10 when Unsolved g r) ∷ []
 
--- a circuit number out of range or held
+-- a circuit number that an admission takes: in its range and not held
 pub record NumberFits (o : Books) (c : ℕ) : Type 0 where
   pub least : 1 ≤ c
   pub most : c ≤ 65535
@@ -63,15 +62,15 @@ abbrev pub netFor : List ℕ → Request → Net
 netFor w r = net (booksIn w) (r .units)
 
 -- a quote's reply
-abbrev pub Quoted : List ℕ → ℕ → ℕ → Request → Reply → Type 1
+abbrev pub Quoted : List ℕ → ℕ → ℕ → Request → Reply → Type 0
 Quoted w work room r a = Answered (Grant (netFor w r) r) (quoteRules w work room r ++ searchRules (netFor w r) r) a
 
 -- an admission's reply
-abbrev pub Admitted : List ℕ → ℕ → ℕ → ℕ → Request → Reply → Type 1
+abbrev pub Admitted : List ℕ → ℕ → ℕ → ℕ → Request → Reply → Type 0
 Admitted w work room c r a =
     Answered (Grant (netFor w r) r) (quoteRules w work room r ++ admitRules w c ++ searchRules (netFor w r) r) a
 
 -- a release's reply
-abbrev pub Cleared : List ℕ → ℕ → Reply → Type 1
+abbrev pub Cleared : List ℕ → ℕ → Reply → Type 0
 Cleared w c a =
     Answered (λ b. b ≡ releases) ((5 when (WellFormed w → ⊥)) ∷ (13 when booksIn w .holds c ≡ false) ∷ []) a

@@ -3,6 +3,7 @@ ghost use mathlib.Core.Path.{_≡_};
 ghost use lib.ListN.{length};
 ghost use Rattle.booking.specs.Replies.{answerOf, pathAfter};
 ghost use Rattle.booking.specs.Calls.{quote, admission, booked, release, cleared};
+ghost use Rattle.booking.specs.Meaning.{Quoted, Admitted, Cleared};
 use crate::Answer;
 use crate::request::number_fits;
 use crate::request::request_fits;
@@ -24,9 +25,11 @@ const CIRCUITS: u32 = 64;
 
 // 5, 6, 7, 8, 9 and 10 in this order; else the problem, delay, cost and number of links of a path, whose links stand in
 // the first words of `path`. The area does not change. Work memory is open after.
+// The reply means what document 01 says: the first rule that applies refuses, and a grant is a best path of its problem.
 pub fn quote(area: &[u32], work: &mut [u32], path: &mut [u32], r: Request) -> Answer
     ensures answer { λ a. ⌜ a ≡ answerOf (quote (now (area .entry)) (length (now (work .entry))) (length (now (path .entry))) r) ⌝ }
     ensures path { λ _. ⌜ now (path .exit) ≡ pathAfter (quote (now (area .entry)) (length (now (work .entry))) (length (now (path .entry))) r) (now (path .entry)) ⌝ }
+    ensures means { λ _. ⌜ Quoted (now (area .entry)) (length (now (work .entry))) (length (now (path .entry))) r (quote (now (area .entry)) (length (now (work .entry))) (length (now (path .entry))) r) ⌝ }
 {
     let c = check(area);
     if !c.formed {
@@ -47,6 +50,7 @@ pub fn quote(area: &[u32], work: &mut [u32], path: &mut [u32], r: Request) -> An
 
 // 5, 6, 7, 8, 11, 12, 9 and 10 in this order; else it answers as a quote does and adds the circuit. Work memory is open
 // after.
+// The reply means what document 01 says: the first rule that applies refuses, and a grant is a best path of its problem.
 pub fn admit(
     area: &mut [u32],
     work: &mut [u32],
@@ -57,6 +61,7 @@ pub fn admit(
     ensures answer { λ a. ⌜ a ≡ answerOf (admission (now (area .entry)) (length (now (work .entry))) (length (now (path .entry))) circuit r) ⌝ }
     ensures path { λ _. ⌜ now (path .exit) ≡ pathAfter (admission (now (area .entry)) (length (now (work .entry))) (length (now (path .entry))) circuit r) (now (path .entry)) ⌝ }
     ensures area { λ _. ⌜ now (area .exit) ≡ booked (now (area .entry)) circuit (r .units) (admission (now (area .entry)) (length (now (work .entry))) (length (now (path .entry))) circuit r) ⌝ }
+    ensures means { λ _. ⌜ Admitted (now (area .entry)) (length (now (work .entry))) (length (now (path .entry))) circuit r (admission (now (area .entry)) (length (now (work .entry))) (length (now (path .entry))) circuit r) ⌝ }
 {
     let c = check(area);
     if !c.formed {
@@ -92,9 +97,11 @@ pub fn admit(
 }
 
 // 5 and 13 in this order; else the circuit with this number goes and the others remain.
+// The reply means what document 01 says: 5 and 13 refuse where they apply, in this order, and else it is released.
 pub fn release(area: &mut [u32], number: u32) -> Answer
     ensures answer { λ a. ⌜ a ≡ answerOf (release (now (area .entry)) number) ⌝ }
     ensures area { λ _. ⌜ now (area .exit) ≡ cleared (now (area .entry)) number (release (now (area .entry)) number) ⌝ }
+    ensures means { λ _. ⌜ Cleared (now (area .entry)) number (release (now (area .entry)) number) ⌝ }
 {
     let c = check(area);
     if !c.formed {

@@ -9,7 +9,7 @@ use native.Mathlib.Omega.{arith}
 use lib.Dec.{ltb, leb}
 use lib.ListN.{length, getD}
 use Rattle.network.proofs.Tests.{by-eq}
-use Rattle.station.specs.Station.{Circuit, Station, circuitOf, circuits, station, tableIn}
+use Rattle.station.specs.Station.{Circuit, Station, circuits, station, tableIn}
 use Rattle.station.specs.Books.{free}
 use Rattle.station.specs.Held.{numberAt, numbersFrom}
 use Rattle.station.specs.Formed.{sound, wellFormed}

@@ -6,6 +6,7 @@ pub mod Formed
 pub mod StationWords
 pub mod Added
 pub mod Removed
+pub mod FreeUnits
 pub mod Keeps
 pub mod Order
 pub mod Loads

@@ -1,7 +1,7 @@
 -- The test of a link, one answer for each of the code's returns: the first range that fails makes it false.
 -- Assumes nothing.
 use mathlib.Core.Path.{_≡_, refl}
-use mathlib.Core.Bool.{Bool, true, false}
+use mathlib.Core.Bool.{false}
 use mathlib.Core.List.{List}
 use Prim.Native.Nat.{ℕ, _≤_, _<_}
 use lib.Dec.{leb}

@@ -2,7 +2,7 @@
 -- which make its reads safe.
 -- Assumes nothing.
 use Prim.Native.Nat.{ℕ, _≤_, _<_}
-use mathlib.Core.Path.{_≡_, refl, sym, ap, _∙_}
+use mathlib.Core.Path.{_≡_, refl}
 use mathlib.Core.Bool.{true, false}
 use mathlib.Core.List.{List, _++_}
 use native.Mathlib.Omega.{arith}
@@ -11,22 +11,30 @@ use borrow.Author.Tests.{le-leb, lt-leb, le-ltb, lt-ltb}
 use Rattle.station.specs.declared.Reading.the-variants.{Refused, Value}
 use Rattle.station.specs.Station.{station, tableIn}
 use Rattle.station.specs.Held.{numbersFrom}
-use Rattle.station.specs.Formed.{wellFormed}
+use Rattle.station.specs.Formed.{WellFormed, wellFormed}
 use Rattle.station.specs.Reads.{listAnswer, listed, Lists, freeAnswer, freeIn}
 use Rattle.station.proofs.Found.{held-length, listing-means}
 use Rattle.station.proofs.Formed.{formed-says}
 
+-- the counts that the words 1 and 2 hold
+pub links-few : (w : List ℕ) → WellFormed w → getD w 1 0 ≤ 256
+unfolding station tableIn
+links-few w h = h .sound .table .links-most
+
+pub held-few : (w : List ℕ) → WellFormed w → getD w 2 0 ≤ 64
+unfolding station
+held-few w h = omega (arith, held-length w (getD w 2 0), h .sound .few)
+
+-- the same where the test has passed
 module _ (w : List ℕ) (formed : wellFormed w ≡ true) where
   pub formed-long : 3459 ≤ length w
   formed-long = formed-says w formed .long
 
   pub formed-links : getD w 1 0 ≤ 256
-  unfolding station tableIn
-  formed-links = formed-says w formed .sound .table .links-most
+  formed-links = links-few w (formed-says w formed)
 
   pub formed-held : getD w 2 0 ≤ 64
-  unfolding station
-  formed-held = omega (arith, formed-says w formed .sound .few, held-length w (getD w 2 0))
+  formed-held = held-few w (formed-says w formed)
 
 -- ---- listing, into a buffer l
 pub lists : (w : List ℕ) → Lists w

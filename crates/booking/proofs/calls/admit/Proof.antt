@@ -1,9 +1,7 @@
 -- `booking::calls::admit` meets its contract: the checks in their order, then the search; a grant's path is read back from
 -- the path buffer and stored, and any other answer stores nothing.
 -- Assumes nothing.
-use mathlib.Core.Path.{refl, sym, ap, _∙_}
-use mathlib.Core.List.{List}
-use Prim.Native.Nat.{ℕ}
+use mathlib.Core.Path.{refl, sym, _∙_}
 use native.Mathlib.Omega.{arith}
 use borrow.Author.Needs.{needs}
 use borrow.Author.Tests.{not-true, not-false}
@@ -11,11 +9,10 @@ use denote.Enum.Declared.{tagOf}
 use lib.ListN.{length}
 use Rattle.station.proofs.ReadCases.{formed-long}
 use Rattle.station.proofs.CircuitCases.{part-length}
-use Rattle.booking.specs.Replies.{Reply, answerOf, pathAfter}
-use Rattle.booking.specs.Calls.{booksIn, sought, booked}
+use Rattle.booking.specs.Calls.{booksIn, sought}
 use Rattle.booking.proofs.Answer.{the-type}
 use Rattle.booking.proofs.CallCases.{fails-5, fails-6, fails-7, fails-8, fails-11, fails-12, searches, ownChecks, admission-is}
-use Rattle.booking.proofs.Granting.{stored-as, unstored, other-case, granted-short, refusal-admitted}
+use Rattle.booking.proofs.Granting.{stored-as, unstored, other-case, granted-short, admitted-as, refusal-admitted}
 use Rattle.booking.proofs.calls.admit.Statement.{statement}
 use Rattle.booking.proofs.calls.admit.Tie as tie
 
@@ -30,7 +27,7 @@ returns c =
     let start = c .before .before .before .before .before .before .before in
     let w = start .args .area .now in
     let l = start .args .path .now in
-    refusal-admitted 5 _ l w (start .args .circuit) (start .args .r .units) (fails-5 w (length (start .args .work .now)) (length l) (start .args .r) (ownChecks w (start .args .circuit)) (sought (booksIn w) (start .args .r)) (sym (c .before .before .check .ensures .0) ∙ not-true _ (c .if1 .taken)) ∙ admission-is w _ _ _ _)
+    refusal-admitted w (length (start .args .work .now)) l (start .args .circuit) (start .args .r) 5 (fails-5 w (length (start .args .work .now)) (length l) (start .args .r) (ownChecks w (start .args .circuit)) (sought (booksIn w) (start .args .r)) (sym (c .before .before .check .ensures .0) ∙ not-true _ (c .if1 .taken)) ∙ admission-is w _ _ _ _)
 
 same-length-2 : tie.Need-same-length-2
 same-length-2 c = search needs
@@ -40,7 +37,7 @@ returns-2 c =
     let start = c .before .before .before .before .before .before .before .before in
     let w = start .args .area .now in
     let l = start .args .path .now in
-    refusal-admitted 6 _ l w (start .args .circuit) (start .args .r .units) (fails-6 w (length (start .args .work .now)) (length l) (start .args .r) (ownChecks w (start .args .circuit)) (sought (booksIn w) (start .args .r)) (sym (c .before .before .before .check .ensures .0) ∙ not-false _ (c .before .if1 .left)) (c .if2 .taken) ∙ admission-is w _ _ _ _)
+    refusal-admitted w (length (start .args .work .now)) l (start .args .circuit) (start .args .r) 6 (fails-6 w (length (start .args .work .now)) (length l) (start .args .r) (ownChecks w (start .args .circuit)) (sought (booksIn w) (start .args .r)) (sym (c .before .before .before .check .ensures .0) ∙ not-false _ (c .before .if1 .left)) (c .if2 .taken) ∙ admission-is w _ _ _ _)
 
 same-length-3 : tie.Need-same-length-3
 same-length-3 c = search needs
@@ -50,7 +47,7 @@ returns-3 c =
     let start = c .before .before .before .before .before .before .before .before .before in
     let w = start .args .area .now in
     let l = start .args .path .now in
-    refusal-admitted 7 _ l w (start .args .circuit) (start .args .r .units) (fails-7 w (length (start .args .work .now)) (length l) (start .args .r) (ownChecks w (start .args .circuit)) (sought (booksIn w) (start .args .r)) (sym (c .before .before .before .before .check .ensures .0) ∙ not-false _ (c .before .before .if1 .left)) (c .before .if2 .left) (c .if3 .taken) ∙ admission-is w _ _ _ _)
+    refusal-admitted w (length (start .args .work .now)) l (start .args .circuit) (start .args .r) 7 (fails-7 w (length (start .args .work .now)) (length l) (start .args .r) (ownChecks w (start .args .circuit)) (sought (booksIn w) (start .args .r)) (sym (c .before .before .before .before .check .ensures .0) ∙ not-false _ (c .before .before .if1 .left)) (c .before .if2 .left) (c .if3 .taken) ∙ admission-is w _ _ _ _)
 
 slice-read-request-fits : tie.Need-slice-read-request-fits
 slice-read-request-fits c =
@@ -68,7 +65,7 @@ returns-4 c =
     let start = c .before .before .before .before .before .before .before .before .before .before .before .before in
     let w = start .args .area .now in
     let l = start .args .path .now in
-    refusal-admitted 8 _ l w (start .args .circuit) (start .args .r .units) (fails-8 w (length (start .args .work .now)) (length l) (start .args .r) (ownChecks w (start .args .circuit)) (sought (booksIn w) (start .args .r)) (sym (c .before .before .before .before .before .before .before .check .ensures .0) ∙ not-false _ (c .before .before .before .before .before .if1 .left)) (c .before .before .before .before .if2 .left) (c .before .before .before .if3 .left) (sym (c .before .request-fits .ensures) ∙ not-true _ (c .if4 .taken)) ∙ admission-is w _ _ _ _)
+    refusal-admitted w (length (start .args .work .now)) l (start .args .circuit) (start .args .r) 8 (fails-8 w (length (start .args .work .now)) (length l) (start .args .r) (ownChecks w (start .args .circuit)) (sought (booksIn w) (start .args .r)) (sym (c .before .before .before .before .before .before .before .check .ensures .0) ∙ not-false _ (c .before .before .before .before .before .if1 .left)) (c .before .before .before .before .if2 .left) (c .before .before .before .if3 .left) (sym (c .before .request-fits .ensures) ∙ not-true _ (c .if4 .taken)) ∙ admission-is w _ _ _ _)
 
 number-fits-requires : tie.Need-number-fits-requires
 number-fits-requires c κs = sym (c .before .before .before .before .before .before .before .before .check .ensures .0) ∙ not-false _ (c .before .before .before .before .before .before .if1 .left)
@@ -81,7 +78,7 @@ returns-5 c =
     let start = c .before .before .before .before .before .before .before .before .before .before .before .before .before .before .before in
     let w = start .args .area .now in
     let l = start .args .path .now in
-    refusal-admitted 11 _ l w (start .args .circuit) (start .args .r .units) (fails-11 w (length (start .args .work .now)) (length l) (start .args .circuit) (start .args .r) (sym (c .before .before .before .before .before .before .before .before .before .before .check .ensures .0) ∙ not-false _ (c .before .before .before .before .before .before .before .before .if1 .left)) (c .before .before .before .before .before .before .before .if2 .left) (c .before .before .before .before .before .before .if3 .left) (sym (c .before .before .before .before .request-fits .ensures) ∙ not-false _ (c .before .before .before .if4 .left)) (sym (c .before .number-fits .ensures) ∙ not-true _ (c .if5 .taken)))
+    refusal-admitted w (length (start .args .work .now)) l (start .args .circuit) (start .args .r) 11 (fails-11 w (length (start .args .work .now)) (length l) (start .args .circuit) (start .args .r) (sym (c .before .before .before .before .before .before .before .before .before .before .check .ensures .0) ∙ not-false _ (c .before .before .before .before .before .before .before .before .if1 .left)) (c .before .before .before .before .before .before .before .if2 .left) (c .before .before .before .before .before .before .if3 .left) (sym (c .before .before .before .before .request-fits .ensures) ∙ not-false _ (c .before .before .before .if4 .left)) (sym (c .before .number-fits .ensures) ∙ not-true _ (c .if5 .taken)))
 
 slice-read-if6 : tie.Need-slice-read-if6
 slice-read-if6 c =
@@ -96,7 +93,7 @@ returns-6 c =
     let start = c .before .before .before .before .before .before .before .before .before .before .before .before .before .before .before .before .before in
     let w = start .args .area .now in
     let l = start .args .path .now in
-    refusal-admitted 12 _ l w (start .args .circuit) (start .args .r .units) (fails-12 w (length (start .args .work .now)) (length l) (start .args .circuit) (start .args .r) (sym (c .before .before .before .before .before .before .before .before .before .before .before .before .check .ensures .0) ∙ not-false _ (c .before .before .before .before .before .before .before .before .before .before .if1 .left)) (c .before .before .before .before .before .before .before .before .before .if2 .left) (c .before .before .before .before .before .before .before .before .if3 .left) (sym (c .before .before .before .before .before .before .request-fits .ensures) ∙ not-false _ (c .before .before .before .before .before .if4 .left)) (sym (c .before .before .before .number-fits .ensures) ∙ not-false _ (c .before .before .if5 .left)) (c .if6 .taken))
+    refusal-admitted w (length (start .args .work .now)) l (start .args .circuit) (start .args .r) 12 (fails-12 w (length (start .args .work .now)) (length l) (start .args .circuit) (start .args .r) (sym (c .before .before .before .before .before .before .before .before .before .before .before .before .check .ensures .0) ∙ not-false _ (c .before .before .before .before .before .before .before .before .before .before .if1 .left)) (c .before .before .before .before .before .before .before .before .before .if2 .left) (c .before .before .before .before .before .before .before .before .if3 .left) (sym (c .before .before .before .before .before .before .request-fits .ensures) ∙ not-false _ (c .before .before .before .before .before .if4 .left)) (sym (c .before .before .before .number-fits .ensures) ∙ not-false _ (c .before .before .if5 .left)) (c .if6 .taken))
 
 seek-requires : tie.Need-seek-requires
 seek-requires c κs =
@@ -127,13 +124,8 @@ returns-7 c =
     let l = start .args .path .now in
     let is = searches w (length (start .args .work .now)) (length l) (start .args .circuit) (start .args .r) (sym (c .before .before .before .before .before .before .before .before .before .before .before .before .before .before .before .before .before .before .before .before .before .before .before .check .ensures .0) ∙ not-false _ (c .before .before .before .before .before .before .before .before .before .before .before .before .before .before .before .before .before .before .before .before .before .if1 .left)) (c .before .before .before .before .before .before .before .before .before .before .before .before .before .before .before .before .before .before .before .before .if2 .left) (c .before .before .before .before .before .before .before .before .before .before .before .before .before .before .before .before .before .before .before .if3 .left) (sym (c .before .before .before .before .before .before .before .before .before .before .before .before .before .before .before .before .before .request-fits .ensures) ∙ not-false _ (c .before .before .before .before .before .before .before .before .before .before .before .before .before .before .before .before .if4 .left)) (sym (c .before .before .before .before .before .before .before .before .before .before .before .before .before .before .number-fits .ensures) ∙ not-false _ (c .before .before .before .before .before .before .before .before .before .before .before .before .before .if5 .left)) (c .before .before .before .before .before .before .before .before .before .before .before .if6 .left) in
     let found = c .before .before .before .before .before .seek .ensures in
-    let other = other-case (tagOf the-type) (λ g. refl) _ (c .match .keys2) in (
-      found .0 ∙ ap answerOf is,
-      (
-        found .1 ∙ ap (λ (a : Reply). pathAfter a l) is,
-        unstored w (start .args .circuit) (start .args .r .units) (sought (booksIn w) (start .args .r)) (λ g e. other g (found .0 ∙ e)) ∙ ap (booked w (start .args .circuit) (start .args .r .units)) is,
-      ),
-    )
+    let other = other-case (tagOf the-type) (λ g. refl) _ (c .match .keys2) in
+    admitted-as w (length (start .args .work .now)) l (start .args .circuit) (start .args .r) (sought (booksIn w) (start .args .r)) is _ (found .0) _ (found .1) _ (unstored w (start .args .circuit) (start .args .r .units) (sought (booksIn w) (start .args .r)) (λ g e. other g (found .0 ∙ e)))
 
 wide-requires : tie.Need-wide-requires
 wide-requires c κs = search needs
@@ -168,10 +160,8 @@ returns-8 c =
     let l = start .args .path .now in
     let is = searches w (length (start .args .work .now)) (length l) (start .args .circuit) (start .args .r) (sym (c .before .before .before .before .before .before .before .before .before .before .before .before .before .before .before .before .before .before .before .before .before .before .before .before .before .before .before .before .before .before .before .before .check .ensures .0) ∙ not-false _ (c .before .before .before .before .before .before .before .before .before .before .before .before .before .before .before .before .before .before .before .before .before .before .before .before .before .before .before .before .before .before .if1 .left)) (c .before .before .before .before .before .before .before .before .before .before .before .before .before .before .before .before .before .before .before .before .before .before .before .before .before .before .before .before .before .if2 .left) (c .before .before .before .before .before .before .before .before .before .before .before .before .before .before .before .before .before .before .before .before .before .before .before .before .before .before .before .before .if3 .left) (sym (c .before .before .before .before .before .before .before .before .before .before .before .before .before .before .before .before .before .before .before .before .before .before .before .before .before .before .request-fits .ensures) ∙ not-false _ (c .before .before .before .before .before .before .before .before .before .before .before .before .before .before .before .before .before .before .before .before .before .before .before .before .before .if4 .left)) (sym (c .before .before .before .before .before .before .before .before .before .before .before .before .before .before .before .before .before .before .before .before .before .before .before .number-fits .ensures) ∙ not-false _ (c .before .before .before .before .before .before .before .before .before .before .before .before .before .before .before .before .before .before .before .before .before .before .if5 .left)) (c .before .before .before .before .before .before .before .before .before .before .before .before .before .before .before .before .before .before .before .before .if6 .left) in
     let found = c .before .before .before .before .before .before .before .before .before .before .before .before .before .before .seek .ensures in
-    let grant = c .before .before .before .before .before .before .before .before .answer .given .1 in (
-      sym grant ∙ found .0 ∙ ap answerOf is,
-      (found .1 ∙ ap (λ (a : Reply). pathAfter a l) is, c .before .before .add .ensures ∙ stored-as w (start .args .circuit) (start .args .r .units) _ l (sought (booksIn w) (start .args .r)) (sym (found .0) ∙ grant) _ (found .1) _ (c .before .before .before .before .wide .ensures) _ (c .before .before .before .part .ensures) ∙ ap (booked w (start .args .circuit) (start .args .r .units)) is),
-    )
+    let grant = c .before .before .before .before .before .before .before .before .answer .given .1 in
+    admitted-as w (length (start .args .work .now)) l (start .args .circuit) (start .args .r) (sought (booksIn w) (start .args .r)) is _ (sym grant ∙ found .0) _ (found .1) _ (c .before .before .add .ensures ∙ stored-as w (start .args .circuit) (start .args .r .units) _ l (sought (booksIn w) (start .args .r)) (sym (found .0) ∙ grant) _ (found .1) _ (c .before .before .before .before .wide .ensures) _ (c .before .before .before .part .ensures))
 
 pub admit-spec : {M : Type 1} → statement M
 admit-spec =

@@ -1,7 +1,7 @@
 -- `booking::calls::release` meets its contract: past the two checks the circuit at the place that was found goes.
 -- Assumes nothing.
 use Prim.Native.Nat.{ℕ, _≤_, _<_}
-use mathlib.Core.Path.{_≡_, sym, ap, _∙_}
+use mathlib.Core.Path.{_≡_, refl, sym, ap, _∙_}
 use mathlib.Core.Bool.{true, false}
 use mathlib.Core.List.{List}
 use native.Mathlib.Omega.{arith}
@@ -12,34 +12,40 @@ use Rattle.station.specs.Held.{foundAt}
 use Rattle.station.specs.Formed.{wellFormed}
 use Rattle.station.specs.Moves.{removed}
 use Rattle.station.proofs.ReadCases.{formed-long, formed-held}
+use Rattle.booking.specs.declared.Answer.{Answer}
 use Rattle.booking.specs.declared.Answer.the-variants.{Refused, Released}
-use Rattle.booking.specs.Replies.{answerOf}
+use Rattle.booking.specs.Replies.{Reply, refuses, releases, answerOf}
 use Rattle.booking.specs.Calls.{release, cleared}
+use Rattle.booking.specs.Meaning.{Cleared}
+use Rattle.booking.proofs.Meaning.{release-means}
 use Rattle.booking.proofs.CallCases.{release-unfit, release-unheld, release-held}
 use Rattle.booking.proofs.calls.release.Statement.{statement}
 use Rattle.booking.proofs.calls.release.Tie as tie
 
--- the answer and the area at each return: number k was found at place j of h
+-- the answer x, the area w' after and the meaning at each return: number k was found at place j of h
 module _ (w : List ℕ) (k : ℕ) where
-  unfit : wellFormed w ≡ false → (Refused 5 ≡ answerOf (release w k)) × (w ≡ cleared w k (release w k))
+  abbrev Done : Answer → List ℕ → Type 0
+  Done x w' = (x ≡ answerOf (release w k)) × ((w' ≡ cleared w k (release w k)) × Cleared w k (release w k))
+
+  done : (a : Reply) → a ≡ release w k → (x : Answer) → x ≡ answerOf a → (w' : List ℕ) → w' ≡ cleared w k a → Done x w'
+  done a is x answers w' stored = (answers ∙ ap answerOf is, (stored ∙ ap (cleared w k) is, release-means w k))
+
+  unfit : wellFormed w ≡ false → Done (Refused 5) w
   unfolding answerOf cleared
-  unfit e = (ap answerOf (release-unfit w k e), ap (cleared w k) (release-unfit w k e))
+  unfit e = done (refuses 5) (release-unfit w k e) (Refused 5) refl w refl
 
   module _ (formed : wellFormed w ≡ true) (h j : ℕ) (count : h ≡ getD w 2 0) (found : j ≡ foundAt w h k) where
     found-is : j ≡ foundAt w (getD w 2 0) k
     found-is = found ∙ ap (λ (n : ℕ). foundAt w n k) count
 
-    unheld : h ≤ j → (Refused 13 ≡ answerOf (release w k)) × (w ≡ cleared w k (release w k))
+    unheld : h ≤ j → Done (Refused 13) w
     unfolding answerOf cleared
-    unheld high =
-        let reply = release-unheld w k formed (omega (arith, found-is)) in
-        (ap answerOf reply, ap (cleared w k) reply)
+    unheld high = done (refuses 13) (release-unheld w k formed (omega (arith, found-is))) (Refused 13) refl w refl
 
-    held : (w' : List ℕ) → j < h → w' ≡ removed w j → (Released ≡ answerOf (release w k)) × (w' ≡ cleared w k (release w k))
+    held : (w' : List ℕ) → j < h → w' ≡ removed w j → Done Released w'
     unfolding answerOf cleared
     held w' low stored =
-        let reply = release-held w k formed (omega (arith, found-is)) in
-        (ap answerOf reply, stored ∙ ap (removed w) found-is ∙ ap (cleared w k) reply)
+        done releases (release-held w k formed (omega (arith, found-is))) Released refl w' (stored ∙ ap (removed w) found-is)
 
 check-requires : tie.Need-check-requires
 check-requires c κs = search needs

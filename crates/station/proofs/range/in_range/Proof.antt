@@ -1,6 +1,5 @@
 -- `station::range::in_range` meets its contract: one test after the other.
 -- Assumes nothing.
-use mathlib.Core.Path.{_≡_, refl}
 use borrow.Author.Tests.{lt-leb, le-leb}
 use Rattle.station.proofs.range.in_range.Statement.{statement}
 use Rattle.station.proofs.range.in_range.Tie as tie

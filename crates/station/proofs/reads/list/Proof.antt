@@ -1,7 +1,7 @@
 -- `station::reads::list` meets its contract: past the checks the numbers of the held circuits stand in the buffer.
 -- Assumes nothing.
-use mathlib.Core.Path.{_≡_, sym, ap, _∙_}
-use mathlib.Core.List.{List, _++_}
+use mathlib.Core.Path.{sym, ap, _∙_}
+use mathlib.Core.List.{_++_}
 use Prim.Native.Nat.{ℕ}
 use native.Mathlib.Omega.{arith}
 use borrow.Author.Needs.{needs}
