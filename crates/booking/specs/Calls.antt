@@ -5,10 +5,9 @@ use Prim.Native.Nat.{ℕ}
 use mathlib.Core.Bool.{Bool, not, _&&_}
 use mathlib.Core.List.{List, [], _∷_, _++_}
 use lib.Dec.{ltb, leb}
-use lib.ListN.{getD}
 use Rattle.network.specs.declared.Request.{Request}
 use Rattle.ebf.specs.Search.{search}
-use Rattle.station.specs.Station.{station}
+use Rattle.station.specs.Station.{station, heldIn}
 use Rattle.station.specs.Books.{Books, books, net}
 use Rattle.station.specs.Held.{foundAt}
 use Rattle.station.specs.Formed.{inRange, wellFormed}
@@ -71,4 +70,4 @@ unfoldable pub cleared : List ℕ → ℕ → Reply → List ℕ
 unfolding removed foundAt
 cleared w c (refuses k) = w
 cleared w c (grants k d x p) = w
-cleared w c releases = removed w (foundAt w (getD w 2 0) c)
+cleared w c releases = removed w (foundAt w (heldIn w) c)

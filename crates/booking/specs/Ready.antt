@@ -6,6 +6,7 @@ use mathlib.Core.Bool.{true}
 use mathlib.Core.List.{List}
 use lib.ListN.{length, getD}
 use Rattle.network.specs.declared.Request.{Request}
+use Rattle.station.specs.Station.{nodesIn}
 use Rattle.station.specs.Formed.{wellFormed}
 use Rattle.station.specs.Reads.{freeIn}
 use Rattle.booking.specs.Requests.{requestFits}
@@ -15,4 +16,4 @@ pub record Seekable (w free work path : List ℕ) (r : Request) : Type 0 where
   pub units : (i : ℕ) → getD free i 0 ≡ freeIn w i
   pub memory : 16384 ≤ length work
   pub buffer : 31 ≤ length path
-  pub request : requestFits (getD w 0 0) r ≡ true
+  pub request : requestFits (nodesIn w) r ≡ true

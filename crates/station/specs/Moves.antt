@@ -7,7 +7,7 @@ use mathlib.Core.List.{List, [], _∷_}
 use lib.Dec.{eqb}
 use lib.ListN.{length, getD, set}
 use lib.Seq.{sets}
-use Rattle.station.specs.Station.{Circuit, Station, place}
+use Rattle.station.specs.Station.{Circuit, Station, place, nodesIn, linksIn, heldIn}
 
 -- a circuit as the words of the area hold it; the path words past its links keep what they held
 abbrev pub wordsOf : Circuit → List ℕ
@@ -15,7 +15,7 @@ wordsOf c = c .number ∷ c .units ∷ length (c .path) ∷ c .path
 
 -- the circuit stands behind the last one, and one more is held
 unfoldable pub added : List ℕ → Circuit → List ℕ
-added w c = set (sets w (place (getD w 2 0)) (wordsOf c)) 2 (getD w 2 0 + 1)
+added w c = set (sets w (place (heldIn w)) (wordsOf c)) 2 (heldIn w + 1)
 
 -- n words from place a on are each overwritten by the word 34 places after
 unfoldable pub closed : List ℕ → ℕ → ℕ → List ℕ
@@ -25,7 +25,7 @@ closed w a (suc n) = closed (set w a (getD w (a + 34) 0)) (suc a) n
 -- the circuits behind circuit j move up by one place, and one fewer is held
 unfoldable pub removed : List ℕ → ℕ → List ℕ
 unfolding closed
-removed w j = set (closed w (place j) (34 * (getD w 2 0 - 1 - j))) 2 (getD w 2 0 - 1)
+removed w j = set (closed w (place j) (34 * (heldIn w - 1 - j))) 2 (heldIn w - 1)
 
 -- the circuits but those with number k
 abbrev pub without : ℕ → List Circuit → List Circuit
@@ -41,8 +41,8 @@ withoutNumber s k = record { table = s .table; held = without k (s .held) }
 
 -- document 01: "n, m, words 3 to 1,282 and words past 3,458 aren't touched"
 pub record Untouched (w w' : List ℕ) : Type 0 where
-  pub nodes : getD w' 0 0 ≡ getD w 0 0
-  pub links : getD w' 1 0 ≡ getD w 1 0
+  pub nodes : nodesIn w' ≡ nodesIn w
+  pub links : linksIn w' ≡ linksIn w
   pub table : (i : ℕ) → 3 ≤ i → i < 1283 → getD w' i 0 ≡ getD w i 0
   pub past : (i : ℕ) → 3459 ≤ i → getD w' i 0 ≡ getD w i 0
   pub long : length w' ≡ length w

@@ -1,5 +1,5 @@
--- What the words of an area say: the table that loading fixed, and the held circuits. Document 01's layout stands here
--- and nowhere else; everything above speaks of a `Station`.
+-- What the words of an area say: the table that loading fixed, and the held circuits. This file reads document 01's
+-- layout, Load.antt and Moves.antt write it, and everything else speaks of a `Station`.
 -- Assumes nothing.
 use Prim.Native.Nat.{ℕ, zero, suc, _+_, _*_}
 use mathlib.Core.List.{List, [], _∷_}
@@ -60,8 +60,17 @@ circuits w zero = []
 circuits w (suc j) = circuitAt w j ∷ circuits w j
 
 -- word 0 is n, word 1 is m, word 2 is h; links begin at word 3
+abbrev pub nodesIn : List ℕ → ℕ
+nodesIn w = getD w 0 0
+
+abbrev pub linksIn : List ℕ → ℕ
+linksIn w = getD w 1 0
+
+abbrev pub heldIn : List ℕ → ℕ
+heldIn w = getD w 2 0
+
 unfoldable pub tableIn : List ℕ → Table
-tableIn w = record { nodes = getD w 0 0; links = getD w 1 0; words = wordsAt w 3 (5 * getD w 1 0) }
+tableIn w = record { nodes = nodesIn w; links = linksIn w; words = wordsAt w 3 (5 * linksIn w) }
 
 unfoldable pub station : List ℕ → Station
-station w = record { table = tableIn w; held = circuits w (getD w 2 0) }
+station w = record { table = tableIn w; held = circuits w (heldIn w) }
