@@ -2,7 +2,6 @@ pub mod Passed
 pub mod Meaning
 pub mod Bookings
 pub mod Depends
-pub mod Worked
 pub mod RequestCases
 pub mod Seeking
 pub mod CallCases

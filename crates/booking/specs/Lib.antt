@@ -3,4 +3,3 @@ pub mod Replies
 pub mod Calls
 pub mod Ready
 pub mod Meaning
-pub mod Cases

@@ -46,16 +46,18 @@ pub record NumberFits (o : Books) (c : ℕ) : Type 0 where
   pub most : c ≤ 65535
   pub new : o .holds c ≡ false
 
-abbrev pub quoteRules : List ℕ → ℕ → ℕ → Request → List Rule
-quoteRules w work room r =
-    (5 when (WellFormed w → ⊥))
-    ∷ (6 when work < 16384)
-    ∷ (7 when room < 31)
-    ∷ (8 when (RequestFits (booksIn w .table .nodes) r → ⊥))
-    ∷ []
+-- the rules that ask for the books alone: those of a request, with the lengths of work memory and path buffer
+abbrev pub requestRules : Books → ℕ → ℕ → Request → List Rule
+requestRules o work room r =
+    (6 when work < 16384) ∷ (7 when room < 31) ∷ (8 when (RequestFits (o .table .nodes) r → ⊥)) ∷ []
 
-abbrev pub admitRules : List ℕ → ℕ → List Rule
-admitRules w c = (11 when (NumberFits (booksIn w) c → ⊥)) ∷ (12 when 64 ≤ booksIn w .count) ∷ []
+-- and those of a circuit number
+abbrev pub numberRules : Books → ℕ → List Rule
+numberRules o c = (11 when (NumberFits o c → ⊥)) ∷ (12 when 64 ≤ o .count) ∷ []
+
+-- the rules of an area before the search
+abbrev pub quoteRules : List ℕ → ℕ → ℕ → Request → List Rule
+quoteRules w work room r = (5 when (WellFormed w → ⊥)) ∷ requestRules (booksIn w) work room r
 
 -- the network that a request sees on an area
 abbrev pub netFor : List ℕ → Request → Net
@@ -68,7 +70,7 @@ Quoted w work room r a = Answered (Grant (netFor w r) r) (quoteRules w work room
 -- an admission's reply
 abbrev pub Admitted : List ℕ → ℕ → ℕ → ℕ → Request → Reply → Type 0
 Admitted w work room c r a =
-    Answered (Grant (netFor w r) r) (quoteRules w work room r ++ admitRules w c ++ searchRules (netFor w r) r) a
+    Answered (Grant (netFor w r) r) (quoteRules w work room r ++ numberRules (booksIn w) c ++ searchRules (netFor w r) r) a
 
 -- a release's reply
 abbrev pub Cleared : List ℕ → ℕ → Reply → Type 0

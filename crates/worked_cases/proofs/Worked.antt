@@ -22,11 +22,12 @@ use Rattle.ebf.specs.Distance.{spread, layer, distance}
 use Rattle.ebf.specs.Search.{tried, search}
 use Rattle.station.specs.Station.{tableIn, circuitOf, station}
 use Rattle.station.specs.Books.{books, net}
+use Rattle.station.specs.Load.{loadAnswer}
 use Rattle.booking.specs.Replies.{Reply}
 use Rattle.booking.specs.Calls.{quote, admission}
 use Rattle.booking.specs.Meaning.{netFor}
-use Rattle.booking.specs.Cases.{netA, netB, m2, m3, m11, Asked, quoting, admitting, Case, cases, Holds, CaseHolds, Margins}
+use Rattle.worked_cases.specs.Cases.{netA, netB, AreasLoaded, m2, m3, m11, Asked, quoting, admitting, Case, cases, Holds, CaseHolds, Margins}
 use Rattle.booking.proofs.Meaning.{quote-means, admission-means}
 
 -- ---- the cases
 -- what the calls' definitions reply, with enough work memory and path buffer
@@ -49,6 +50,11 @@ each : (l : List Case) → map (λ (c : Case). replied (c .area) (c .asked)) l �
 each [] e = tt
 each (c ∷ l) e =
     (subst (Holds (c .area) (c .asked)) (head-eq-of-cons-eq e) (replied-holds (c .area) (c .asked)), each l (tail-eq-of-cons-eq e))
+
+-- the areas are freshly loaded
+pub areas-loaded : AreasLoaded
+unfolding loadAnswer
+areas-loaded = (refl, (refl, (refl, tt)))
 
 -- M1 to M11 hold
 pub all-cases : All CaseHolds cases

@@ -8,12 +8,14 @@ use lib.ListN.{length, replicate}
 use Rattle.network.specs.Net.{sum}
 use Rattle.network.specs.Scale.{Overqualified}
 use Rattle.network.specs.Problem.{Distance}
+use Rattle.network.specs.Lists.{All}
 use Rattle.network.specs.declared.Request.{Request}
 use Rattle.network.specs.Reduce.{costBound}
-use Rattle.station.specs.Load.{loaded}
+use Rattle.station.specs.declared.Loading.the-variants.{Loaded}
+use Rattle.station.specs.Load.{loadAnswer, loaded}
 use Rattle.booking.specs.Replies.{Reply, refuses, grants}
 use Rattle.booking.specs.Calls.{booked}
 use Rattle.booking.specs.Meaning.{netFor, Quoted, Admitted}
 
 -- ---- the areas
 -- a link's five words: from, to, delay, cost, capacity
@@ -50,6 +52,10 @@ netB = area linksB
 unfoldable pub bare : List ℕ
 unfolding area
 bare = area []
+
+-- Load accepts each of the three
+abbrev pub AreasLoaded : Type 0
+AreasLoaded = All (λ links. loadAnswer (replicate 3459 0) 4 links ≡ Loaded) (linksA ∷ linksB ∷ [] ∷ [])
 
 -- ---- the calls
 abbrev pub between : ℕ → ℕ → ℕ → ℕ → ℕ → ℕ → Request
