@@ -5,8 +5,8 @@ ghost use Rattle.booking.specs.Replies.{answerOf, pathAfter};
 ghost use Rattle.booking.specs.Calls.{quote, admission, booked, release, cleared};
 ghost use Rattle.booking.specs.Meaning.{Quoted, Admitted, Cleared};
 use crate::Answer;
+use crate::checks::refusal;
 use crate::request::number_fits;
-use crate::request::request_fits;
 use crate::seek::seek;
 use network::Request;
 use network::link;
@@ -14,11 +14,6 @@ use station::check::check;
 use station::held::find;
 use station::layout;
 use station::store;
-
-// The least lengths of work memory and of a path buffer.
-const WORK: usize = 16384;
-
-const PATH: usize = 31;
 
 // Most circuits held.
 const CIRCUITS: u32 = 64;
@@ -32,17 +27,9 @@ pub fn quote(area: &[u32], work: &mut [u32], path: &mut [u32], r: Request) -> An
     ensures means { λ _. ⌜ Quoted (now (area .entry)) (length (now (work .entry))) (length (now (path .entry))) r (quote (now (area .entry)) (length (now (work .entry))) (length (now (path .entry))) r) ⌝ }
 {
     let c = check(area);
-    if !c.formed {
-        return Answer::Refused(5);
-    }
-    if work.len() < WORK {
-        return Answer::Refused(6);
-    }
-    if path.len() < PATH {
-        return Answer::Refused(7);
-    }
-    if !request_fits(area[layout::NODES], r) {
-        return Answer::Refused(8);
+    let k = refusal(c.formed, area, work.len(), path.len(), r);
+    if k != 0 {
+        return Answer::Refused(k);
     }
     let free = c.free;
     seek(area, &free, work, path, r)
@@ -64,17 +51,9 @@ pub fn admit(
     ensures means { λ _. ⌜ Admitted (now (area .entry)) (length (now (work .entry))) (length (now (path .entry))) circuit r (admission (now (area .entry)) (length (now (work .entry))) (length (now (path .entry))) circuit r) ⌝ }
 {
     let c = check(area);
-    if !c.formed {
-        return Answer::Refused(5);
-    }
-    if work.len() < WORK {
-        return Answer::Refused(6);
-    }
-    if path.len() < PATH {
-        return Answer::Refused(7);
-    }
-    if !request_fits(area[layout::NODES], r) {
-        return Answer::Refused(8);
+    let k = refusal(c.formed, area, work.len(), path.len(), r);
+    if k != 0 {
+        return Answer::Refused(k);
     }
     if !number_fits(area, circuit) {
         return Answer::Refused(11);

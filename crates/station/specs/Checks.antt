@@ -17,6 +17,11 @@ abbrev pub checked : {A : Type 0} → (ℕ → A) → List Check → A → A
 checked refuse [] a = a
 checked refuse (c ∷ cs) a = cond (c .passes) (checked refuse cs a) (refuse (c .number))
 
+-- the number of the first check that fails, or 0 where every check passes
+abbrev pub firstFailing : List Check → ℕ
+firstFailing [] = 0
+firstFailing (c ∷ cs) = cond (c .passes) (firstFailing cs) (c .number)
+
 -- every check passes
 abbrev pub pass : List Check → Bool
 pass [] = true

@@ -11,7 +11,7 @@ use Rattle.station.proofs.ReadCases.{formed-long}
 use Rattle.station.proofs.CircuitCases.{part-length}
 use Rattle.booking.specs.Calls.{booksIn, sought}
 use Rattle.booking.proofs.Answer.{the-type}
-use Rattle.booking.proofs.CallCases.{fails-5, fails-6, fails-7, fails-8, fails-11, fails-12, searches, ownChecks, admission-is}
+use Rattle.booking.proofs.CallCases.{all-passed, admission-refused, fails-11, fails-12, searches}
 use Rattle.booking.proofs.Granting.{stored-as, unstored, other-case, granted-short, admitted-as, refusal-admitted}
 use Rattle.booking.proofs.calls.admit.Statement.{statement}
 use Rattle.booking.proofs.calls.admit.Tie as tie
@@ -19,94 +19,120 @@ use Rattle.booking.proofs.calls.admit.Tie as tie
 check-requires : tie.Need-check-requires
 check-requires c κs = search needs
 
+refusal-requires : tie.Need-refusal-requires
+refusal-requires c κs = search needs
+
 same-length : tie.Need-same-length
 same-length c = search needs
 
 returns : tie.Need-returns
 returns c =
-    let start = c .before .before .before .before .before .before .before in
+    let start = c .before .before .before .before .before .before .before .before in
     let w = start .args .area .now in
+    let work = length (start .args .work .now) in
     let l = start .args .path .now in
-    refusal-admitted w (length (start .args .work .now)) l (start .args .circuit) (start .args .r) 5 (fails-5 w (length (start .args .work .now)) (length l) (start .args .r) (ownChecks w (start .args .circuit)) (sought (booksIn w) (start .args .r)) (sym (c .before .before .check .ensures .0) ∙ not-true _ (c .if1 .taken)) ∙ admission-is w _ _ _ _)
+    refusal-admitted w work l (start .args .circuit) (start .args .r) _
+    (admission-refused w work (length l) (start .args .circuit) (start .args .r) _ (c .before .refusal .ensures) (c .if1 .taken))
+
+number-fits-requires : tie.Need-number-fits-requires
+number-fits-requires c κs =
+    let start = c .before .before .before .before .before .before .before .before .before in
+    let w = start .args .area .now in
+    let work = length (start .args .work .now) in
+    let l = start .args .path .now in
+    let p = all-passed w work (length l) (start .args .r) (sym (c .before .if1 .left) ∙ c .before .before .refusal .ensures) in
+    p .formed
 
 same-length-2 : tie.Need-same-length-2
 same-length-2 c = search needs
 
 returns-2 : tie.Need-returns-2
 returns-2 c =
-    let start = c .before .before .before .before .before .before .before .before in
+    let start = c .before .before .before .before .before .before .before .before .before .before .before in
     let w = start .args .area .now in
+    let work = length (start .args .work .now) in
     let l = start .args .path .now in
-    refusal-admitted w (length (start .args .work .now)) l (start .args .circuit) (start .args .r) 6 (fails-6 w (length (start .args .work .now)) (length l) (start .args .r) (ownChecks w (start .args .circuit)) (sought (booksIn w) (start .args .r)) (sym (c .before .before .before .check .ensures .0) ∙ not-false _ (c .before .if1 .left)) (c .if2 .taken) ∙ admission-is w _ _ _ _)
+    let p = all-passed w work (length l) (start .args .r) (sym (c .before .before .before .if1 .left) ∙ c .before .before .before .before .refusal .ensures) in
+    refusal-admitted w work l (start .args .circuit) (start .args .r) 11
+    (fails-11 w work (length l) (start .args .circuit) (start .args .r) p (sym (c .before .number-fits .ensures) ∙ not-true _ (c .if2 .taken)))
+
+slice-read-if3 : tie.Need-slice-read-if3
+slice-read-if3 c =
+    let start = c .before .before .before .before .before .before .before .before .before .before .before .before in
+    let w = start .args .area .now in
+    let work = length (start .args .work .now) in
+    let l = start .args .path .now in
+    let p = all-passed w work (length l) (start .args .r) (sym (c .before .before .before .before .if1 .left) ∙ c .before .before .before .before .before .refusal .ensures) in
+    omega (arith, formed-long w (p .formed))
 
 same-length-3 : tie.Need-same-length-3
 same-length-3 c = search needs
 
 returns-3 : tie.Need-returns-3
 returns-3 c =
-    let start = c .before .before .before .before .before .before .before .before .before in
+    let start = c .before .before .before .before .before .before .before .before .before .before .before .before .before in
     let w = start .args .area .now in
+    let work = length (start .args .work .now) in
     let l = start .args .path .now in
-    refusal-admitted w (length (start .args .work .now)) l (start .args .circuit) (start .args .r) 7 (fails-7 w (length (start .args .work .now)) (length l) (start .args .r) (ownChecks w (start .args .circuit)) (sought (booksIn w) (start .args .r)) (sym (c .before .before .before .before .check .ensures .0) ∙ not-false _ (c .before .before .if1 .left)) (c .before .if2 .left) (c .if3 .taken) ∙ admission-is w _ _ _ _)
+    let p = all-passed w work (length l) (start .args .r) (sym (c .before .before .before .before .before .if1 .left) ∙ c .before .before .before .before .before .before .refusal .ensures) in
+    refusal-admitted w work l (start .args .circuit) (start .args .r) 12
+    (fails-12 w work (length l) (start .args .circuit) (start .args .r) p (sym (c .before .before .before .number-fits .ensures) ∙ not-false _ (c .before .before .if2 .left)) (c .if3 .taken))
 
-slice-read-request-fits : tie.Need-slice-read-request-fits
-slice-read-request-fits c =
-    let w = c .before .before .before .before .before .before .before .before .before .before .args .area .now in
-    omega (arith, formed-long w (sym (c .before .before .before .before .before .check .ensures .0) ∙ not-false _ (c .before .before .before .if1 .left)))
+seek-requires : tie.Need-seek-requires
+seek-requires c κs =
+    let start = c .before .before .before .before .before .before .before .before .before .before .before .before .before .before .before .before .before .before in
+    let w = start .args .area .now in
+    let work = length (start .args .work .now) in
+    let l = start .args .path .now in
+    let p = all-passed w work (length l) (start .args .r) (sym (c .before .before .before .before .before .before .before .before .before .before .if1 .left) ∙ c .before .before .before .before .before .before .before .before .before .before .before .refusal .ensures) in
+    record { formed = p .formed; units = c .before .before .before .before .before .before .before .before .before .before .before .before .before .check .ensures .1; memory = p .memory; buffer = p .buffer; request = p .request }
 
-request-fits-requires : tie.Need-request-fits-requires
-request-fits-requires c κs = search needs
+enum-known-answer : tie.Need-enum-known-answer
+enum-known-answer c = search needs
 
 same-length-4 : tie.Need-same-length-4
 same-length-4 c = search needs
 
-returns-4 : tie.Need-returns-4
-returns-4 c =
-    let start = c .before .before .before .before .before .before .before .before .before .before .before .before in
-    let w = start .args .area .now in
-    let l = start .args .path .now in
-    refusal-admitted w (length (start .args .work .now)) l (start .args .circuit) (start .args .r) 8 (fails-8 w (length (start .args .work .now)) (length l) (start .args .r) (ownChecks w (start .args .circuit)) (sought (booksIn w) (start .args .r)) (sym (c .before .before .before .before .before .before .before .check .ensures .0) ∙ not-false _ (c .before .before .before .before .before .if1 .left)) (c .before .before .before .before .if2 .left) (c .before .before .before .if3 .left) (sym (c .before .request-fits .ensures) ∙ not-true _ (c .if4 .taken)) ∙ admission-is w _ _ _ _)
-
-number-fits-requires : tie.Need-number-fits-requires
-number-fits-requires c κs = sym (c .before .before .before .before .before .before .before .before .check .ensures .0) ∙ not-false _ (c .before .before .before .before .before .before .if1 .left)
-
 same-length-5 : tie.Need-same-length-5
 same-length-5 c = search needs
-
-returns-5 : tie.Need-returns-5
-returns-5 c =
-    let start = c .before .before .before .before .before .before .before .before .before .before .before .before .before .before .before in
-    let w = start .args .area .now in
-    let l = start .args .path .now in
-    refusal-admitted w (length (start .args .work .now)) l (start .args .circuit) (start .args .r) 11 (fails-11 w (length (start .args .work .now)) (length l) (start .args .circuit) (start .args .r) (sym (c .before .before .before .before .before .before .before .before .before .before .check .ensures .0) ∙ not-false _ (c .before .before .before .before .before .before .before .before .if1 .left)) (c .before .before .before .before .before .before .before .if2 .left) (c .before .before .before .before .before .before .if3 .left) (sym (c .before .before .before .before .request-fits .ensures) ∙ not-false _ (c .before .before .before .if4 .left)) (sym (c .before .number-fits .ensures) ∙ not-true _ (c .if5 .taken)))
-
-slice-read-if6 : tie.Need-slice-read-if6
-slice-read-if6 c =
-    let w = c .before .before .before .before .before .before .before .before .before .before .before .before .before .before .before .before .args .area .now in
-    omega (arith, formed-long w (sym (c .before .before .before .before .before .before .before .before .before .before .before .check .ensures .0) ∙ not-false _ (c .before .before .before .before .before .before .before .before .before .if1 .left)))
 
 same-length-6 : tie.Need-same-length-6
 same-length-6 c = search needs
 
-returns-6 : tie.Need-returns-6
-returns-6 c =
-    let start = c .before .before .before .before .before .before .before .before .before .before .before .before .before .before .before .before .before in
+returns-4 : tie.Need-returns-4
+returns-4 c =
+    let start = c .before .before .before .before .before .before .before .before .before .before .before .before .before .before .before .before .before .before .before .before .before .before .before .before in
     let w = start .args .area .now in
+    let work = length (start .args .work .now) in
     let l = start .args .path .now in
-    refusal-admitted w (length (start .args .work .now)) l (start .args .circuit) (start .args .r) 12 (fails-12 w (length (start .args .work .now)) (length l) (start .args .circuit) (start .args .r) (sym (c .before .before .before .before .before .before .before .before .before .before .before .before .check .ensures .0) ∙ not-false _ (c .before .before .before .before .before .before .before .before .before .before .if1 .left)) (c .before .before .before .before .before .before .before .before .before .if2 .left) (c .before .before .before .before .before .before .before .before .if3 .left) (sym (c .before .before .before .before .before .before .request-fits .ensures) ∙ not-false _ (c .before .before .before .before .before .if4 .left)) (sym (c .before .before .before .number-fits .ensures) ∙ not-false _ (c .before .before .if5 .left)) (c .if6 .taken))
+    let p = all-passed w work (length l) (start .args .r) (sym (c .before .before .before .before .before .before .before .before .before .before .before .before .before .before .before .before .if1 .left) ∙ c .before .before .before .before .before .before .before .before .before .before .before .before .before .before .before .before .before .refusal .ensures) in
+    let is = searches w work (length l) (start .args .circuit) (start .args .r) p (sym (c .before .before .before .before .before .before .before .before .before .before .before .before .before .before .number-fits .ensures) ∙ not-false _ (c .before .before .before .before .before .before .before .before .before .before .before .before .before .if2 .left)) (c .before .before .before .before .before .before .before .before .before .before .before .if3 .left) in
+    let found = c .before .before .before .before .before .seek .ensures in
+    let other = other-case (tagOf the-type) (λ g. refl) _ (c .match .keys2) in
+    admitted-as w work l (start .args .circuit) (start .args .r) (sought (booksIn w) (start .args .r)) is _ (found .0) _ (found .1) w
+    (unstored w (start .args .circuit) (start .args .r .units) (sought (booksIn w) (start .args .r)) (λ g e. other g (found .0 ∙ e)))
 
-seek-requires : tie.Need-seek-requires
-seek-requires c κs =
-    record {
-      formed = sym (c .before .before .before .before .before .before .before .before .before .before .before .before .before .before .before .before .before .check .ensures .0) ∙ not-false _ (c .before .before .before .before .before .before .before .before .before .before .before .before .before .before .before .if1 .left);
-      units = c .before .before .before .before .before .before .before .before .before .before .before .before .before .before .before .before .before .check .ensures .1;
-      memory = c .before .before .before .before .before .before .before .before .before .before .before .before .before .before .if2 .left;
-      buffer = c .before .before .before .before .before .before .before .before .before .before .before .before .before .if3 .left;
-      request = sym (c .before .before .before .before .before .before .before .before .before .before .before .request-fits .ensures) ∙ not-false _ (c .before .before .before .before .before .before .before .before .before .before .if4 .left);
-    }
+wide-requires : tie.Need-wide-requires
+wide-requires c κs = search needs
 
-enum-known-answer : tie.Need-enum-known-answer
-enum-known-answer c = search needs
+part-requires : tie.Need-part-requires
+part-requires c κs =
+    let start = c .before .before .before .before .before .before .before .before .before .before .before .before .before .before .before .before .before .before .before .before .before .before .before .before .before .before .before .before .before in
+    let w = start .args .area .now in
+    let work = length (start .args .work .now) in
+    let l = start .args .path .now in
+    let p = all-passed w work (length l) (start .args .r) (sym (c .before .before .before .before .before .before .before .before .before .before .before .before .before .before .before .before .before .before .before .before .before .if1 .left) ∙ c .before .before .before .before .before .before .before .before .before .before .before .before .before .before .before .before .before .before .before .before .before .before .refusal .ensures) in
+    omega (arith, granted-short w (start .args .r) (p .formed) (p .request) _ (sym (c .before .before .before .before .before .before .before .before .before .before .seek .ensures .0) ∙ c .before .before .before .before .answer .given .1), c .wide .ensures, p .buffer, c .before .before .before .before .before .before .before .before .before .before .seek .kept .1)
+
+add-requires : tie.Need-add-requires
+add-requires c κs =
+    let start = c .before .before .before .before .before .before .before .before .before .before .before .before .before .before .before .before .before .before .before .before .before .before .before .before .before .before .before .before .before .before in
+    let w = start .args .area .now in
+    let work = length (start .args .work .now) in
+    let l = start .args .path .now in
+    let p = all-passed w work (length l) (start .args .r) (sym (c .before .before .before .before .before .before .before .before .before .before .before .before .before .before .before .before .before .before .before .before .before .before .if1 .left) ∙ c .before .before .before .before .before .before .before .before .before .before .before .before .before .before .before .before .before .before .before .before .before .before .before .refusal .ensures) in
+    let count = part-length (c .before .before .before .before .before .before .before .before .before .before .before .seek .last .1 .1 .1 .0) 0 (c .before .wide .result) (c .part .ensures) in
+    (formed-long w (p .formed), (c .before .before .before .before .before .before .before .before .before .before .before .before .before .before .before .before .before .if3 .left, omega (arith, granted-short w (start .args .r) (p .formed) (p .request) _ (sym (c .before .before .before .before .before .before .before .before .before .before .before .seek .ensures .0) ∙ c .before .before .before .before .before .answer .given .1), c .before .wide .ensures, count)))
 
 same-length-7 : tie.Need-same-length-7
 same-length-7 c = search needs
@@ -117,83 +143,45 @@ same-length-8 c = search needs
 same-length-9 : tie.Need-same-length-9
 same-length-9 c = search needs
 
-returns-7 : tie.Need-returns-7
-returns-7 c =
-    let start = c .before .before .before .before .before .before .before .before .before .before .before .before .before .before .before .before .before .before .before .before .before .before .before .before .before .before .before .before in
-    let w = start .args .area .now in
-    let l = start .args .path .now in
-    let is = searches w (length (start .args .work .now)) (length l) (start .args .circuit) (start .args .r) (sym (c .before .before .before .before .before .before .before .before .before .before .before .before .before .before .before .before .before .before .before .before .before .before .before .check .ensures .0) ∙ not-false _ (c .before .before .before .before .before .before .before .before .before .before .before .before .before .before .before .before .before .before .before .before .before .if1 .left)) (c .before .before .before .before .before .before .before .before .before .before .before .before .before .before .before .before .before .before .before .before .if2 .left) (c .before .before .before .before .before .before .before .before .before .before .before .before .before .before .before .before .before .before .before .if3 .left) (sym (c .before .before .before .before .before .before .before .before .before .before .before .before .before .before .before .before .before .request-fits .ensures) ∙ not-false _ (c .before .before .before .before .before .before .before .before .before .before .before .before .before .before .before .before .if4 .left)) (sym (c .before .before .before .before .before .before .before .before .before .before .before .before .before .before .number-fits .ensures) ∙ not-false _ (c .before .before .before .before .before .before .before .before .before .before .before .before .before .if5 .left)) (c .before .before .before .before .before .before .before .before .before .before .before .if6 .left) in
-    let found = c .before .before .before .before .before .seek .ensures in
-    let other = other-case (tagOf the-type) (λ g. refl) _ (c .match .keys2) in
-    admitted-as w (length (start .args .work .now)) l (start .args .circuit) (start .args .r) (sought (booksIn w) (start .args .r)) is _ (found .0) _ (found .1) _ (unstored w (start .args .circuit) (start .args .r .units) (sought (booksIn w) (start .args .r)) (λ g e. other g (found .0 ∙ e)))
-
-wide-requires : tie.Need-wide-requires
-wide-requires c κs = search needs
-
-part-requires : tie.Need-part-requires
-part-requires c κs =
+returns-5 : tie.Need-returns-5
+returns-5 c =
     let start = c .before .before .before .before .before .before .before .before .before .before .before .before .before .before .before .before .before .before .before .before .before .before .before .before .before .before .before .before .before .before .before .before .before in
     let w = start .args .area .now in
+    let work = length (start .args .work .now) in
     let l = start .args .path .now in
-    omega (arith, granted-short w (start .args .r) (sym (c .before .before .before .before .before .before .before .before .before .before .before .before .before .before .before .before .before .before .before .before .before .before .before .before .before .before .before .before .check .ensures .0) ∙ not-false _ (c .before .before .before .before .before .before .before .before .before .before .before .before .before .before .before .before .before .before .before .before .before .before .before .before .before .before .if1 .left)) (sym (c .before .before .before .before .before .before .before .before .before .before .before .before .before .before .before .before .before .before .before .before .before .before .request-fits .ensures) ∙ not-false _ (c .before .before .before .before .before .before .before .before .before .before .before .before .before .before .before .before .before .before .before .before .before .if4 .left)) _ (sym (c .before .before .before .before .before .before .before .before .before .before .seek .ensures .0) ∙ c .before .before .before .before .answer .given .1), c .wide .ensures, c .before .before .before .before .before .before .before .before .before .before .before .before .before .before .before .before .before .before .before .before .before .before .before .before .if3 .left, c .before .before .before .before .before .before .before .before .before .before .seek .kept .1)
-
-add-requires : tie.Need-add-requires
-add-requires c κs =
-    let start = c .before .before .before .before .before .before .before .before .before .before .before .before .before .before .before .before .before .before .before .before .before .before .before .before .before .before .before .before .before .before .before .before .before .before in
-    let w = start .args .area .now in
-    let l = start .args .path .now in
-    (formed-long w (sym (c .before .before .before .before .before .before .before .before .before .before .before .before .before .before .before .before .before .before .before .before .before .before .before .before .before .before .before .before .before .check .ensures .0) ∙ not-false _ (c .before .before .before .before .before .before .before .before .before .before .before .before .before .before .before .before .before .before .before .before .before .before .before .before .before .before .before .if1 .left)), (c .before .before .before .before .before .before .before .before .before .before .before .before .before .before .before .before .before .if6 .left, omega (arith, granted-short w (start .args .r) (sym (c .before .before .before .before .before .before .before .before .before .before .before .before .before .before .before .before .before .before .before .before .before .before .before .before .before .before .before .before .before .check .ensures .0) ∙ not-false _ (c .before .before .before .before .before .before .before .before .before .before .before .before .before .before .before .before .before .before .before .before .before .before .before .before .before .before .before .if1 .left)) (sym (c .before .before .before .before .before .before .before .before .before .before .before .before .before .before .before .before .before .before .before .before .before .before .before .request-fits .ensures) ∙ not-false _ (c .before .before .before .before .before .before .before .before .before .before .before .before .before .before .before .before .before .before .before .before .before .before .if4 .left)) _ (sym (c .before .before .before .before .before .before .before .before .before .before .before .seek .ensures .0) ∙ c .before .before .before .before .before .answer .given .1), c .before .wide .ensures, part-length (c .before .before .before .before .before .before .before .before .before .before .before .seek .last .1 .1 .1 .0) 0 (c .before .wide .result) (c .part .ensures))))
-
-same-length-10 : tie.Need-same-length-10
-same-length-10 c = search needs
-
-same-length-11 : tie.Need-same-length-11
-same-length-11 c = search needs
-
-same-length-12 : tie.Need-same-length-12
-same-length-12 c = search needs
-
-returns-8 : tie.Need-returns-8
-returns-8 c =
-    let start = c .before .before .before .before .before .before .before .before .before .before .before .before .before .before .before .before .before .before .before .before .before .before .before .before .before .before .before .before .before .before .before .before .before .before .before .before .before in
-    let w = start .args .area .now in
-    let l = start .args .path .now in
-    let is = searches w (length (start .args .work .now)) (length l) (start .args .circuit) (start .args .r) (sym (c .before .before .before .before .before .before .before .before .before .before .before .before .before .before .before .before .before .before .before .before .before .before .before .before .before .before .before .before .before .before .before .before .check .ensures .0) ∙ not-false _ (c .before .before .before .before .before .before .before .before .before .before .before .before .before .before .before .before .before .before .before .before .before .before .before .before .before .before .before .before .before .before .if1 .left)) (c .before .before .before .before .before .before .before .before .before .before .before .before .before .before .before .before .before .before .before .before .before .before .before .before .before .before .before .before .before .if2 .left) (c .before .before .before .before .before .before .before .before .before .before .before .before .before .before .before .before .before .before .before .before .before .before .before .before .before .before .before .before .if3 .left) (sym (c .before .before .before .before .before .before .before .before .before .before .before .before .before .before .before .before .before .before .before .before .before .before .before .before .before .before .request-fits .ensures) ∙ not-false _ (c .before .before .before .before .before .before .before .before .before .before .before .before .before .before .before .before .before .before .before .before .before .before .before .before .before .if4 .left)) (sym (c .before .before .before .before .before .before .before .before .before .before .before .before .before .before .before .before .before .before .before .before .before .before .before .number-fits .ensures) ∙ not-false _ (c .before .before .before .before .before .before .before .before .before .before .before .before .before .before .before .before .before .before .before .before .before .before .if5 .left)) (c .before .before .before .before .before .before .before .before .before .before .before .before .before .before .before .before .before .before .before .before .if6 .left) in
+    let p = all-passed w work (length l) (start .args .r) (sym (c .before .before .before .before .before .before .before .before .before .before .before .before .before .before .before .before .before .before .before .before .before .before .before .before .before .if1 .left) ∙ c .before .before .before .before .before .before .before .before .before .before .before .before .before .before .before .before .before .before .before .before .before .before .before .before .before .before .refusal .ensures) in
+    let is = searches w work (length l) (start .args .circuit) (start .args .r) p (sym (c .before .before .before .before .before .before .before .before .before .before .before .before .before .before .before .before .before .before .before .before .before .before .before .number-fits .ensures) ∙ not-false _ (c .before .before .before .before .before .before .before .before .before .before .before .before .before .before .before .before .before .before .before .before .before .before .if2 .left)) (c .before .before .before .before .before .before .before .before .before .before .before .before .before .before .before .before .before .before .before .before .if3 .left) in
     let found = c .before .before .before .before .before .before .before .before .before .before .before .before .before .before .seek .ensures in
     let grant = c .before .before .before .before .before .before .before .before .answer .given .1 in
-    admitted-as w (length (start .args .work .now)) l (start .args .circuit) (start .args .r) (sought (booksIn w) (start .args .r)) is _ (sym grant ∙ found .0) _ (found .1) _ (c .before .before .add .ensures ∙ stored-as w (start .args .circuit) (start .args .r .units) _ l (sought (booksIn w) (start .args .r)) (sym (found .0) ∙ grant) _ (found .1) _ (c .before .before .before .before .wide .ensures) _ (c .before .before .before .part .ensures))
+    let booked-so =
+    stored-as w (start .args .circuit) (start .args .r .units) _ l (sought (booksIn w) (start .args .r)) (sym (found .0) ∙ grant) _ (found .1) _ (c .before .before .before .before .wide .ensures) _ (c .before .before .before .part .ensures) in
+    admitted-as w work l (start .args .circuit) (start .args .r) (sought (booksIn w) (start .args .r)) is _ (sym grant ∙ found .0) _ (found .1) _
+    (c .before .before .add .ensures ∙ booked-so)
 
 pub admit-spec : {M : Type 1} → statement M
 admit-spec =
     tie.close
     (tie.spec
     check-requires
+    refusal-requires
     same-length
     returns
+    number-fits-requires
     same-length-2
     returns-2
+    slice-read-if3
     same-length-3
     returns-3
-    slice-read-request-fits
-    request-fits-requires
-    same-length-4
-    returns-4
-    number-fits-requires
-    same-length-5
-    returns-5
-    slice-read-if6
-    same-length-6
-    returns-6
     seek-requires
     enum-known-answer
-    same-length-7
-    same-length-8
-    same-length-9
-    returns-7
+    same-length-4
+    same-length-5
+    same-length-6
+    returns-4
     wide-requires
     part-requires
     add-requires
-    same-length-10
-    same-length-11
-    same-length-12
-    returns-8)
+    same-length-7
+    same-length-8
+    same-length-9
+    returns-5)
