@@ -11,6 +11,32 @@ use station::Reading;
 use station::load::load;
 use station::reads;
 
+// The link words of document 01's nets.
+const NET_A: [u32; 20] = [
+    0,
+    1,
+    2,
+    5,
+    10,
+    1,
+    2,
+    2,
+    5,
+    10,
+    2,
+    3,
+    2,
+    5,
+    10,
+    0,
+    3,
+    9,
+    1,
+    10,
+];
+
+const NET_B: [u32; 20] = [1, 2, 0, 1, 5, 2, 1, 0, 1, 5, 1, 3, 1, 1, 5, 0, 1, 1, 1, 5];
+
 fn text(words: &[u8]) {
     io::write_all(1, words);
 }
@@ -159,29 +185,8 @@ fn to_itself(area: &[u32; 3459], work: &mut [u32; 16384]) {
 }
 
 fn main() {
-    let net_a: [u32; 20] = [
-        0,
-        1,
-        2,
-        5,
-        10,
-        1,
-        2,
-        2,
-        5,
-        10,
-        2,
-        3,
-        2,
-        5,
-        10,
-        0,
-        3,
-        9,
-        1,
-        10,
-    ];
-    let net_b: [u32; 20] = [1, 2, 0, 1, 5, 2, 1, 0, 1, 5, 1, 3, 1, 1, 5, 0, 1, 1, 1, 5];
+    let net_a = NET_A;
+    let net_b = NET_B;
     let none: [u32; 0] = [];
     let mut area: [u32; 3459] = [88; 3459];
     let mut work: [u32; 16384] = [77; 16384];
