@@ -15,17 +15,17 @@ use Rattle.network.specs.Net.{Net, IsPath}
 use Rattle.network.specs.declared.Request.{Request}
 use Rattle.network.proofs.Tests.{fst-of, snd-of}
 use Rattle.network.proofs.Short.{path-short}
-use Rattle.station.specs.Station.{Circuit, Station, station}
-use Rattle.station.specs.Books.{holds, free, books, net}
-use Rattle.station.specs.Held.{foundAt}
-use Rattle.station.specs.Formed.{CircuitFits, Sound, WellFormed, wellFormed}
-use Rattle.station.specs.Moves.{withCircuit, withoutNumber, Untouched}
-use Rattle.station.proofs.Formed.{formed-says}
-use Rattle.station.proofs.Found.{holds-found}
-use Rattle.station.proofs.Added.{added-long, added-untouched, added-station}
-use Rattle.station.proofs.Removed.{removed-long, removed-untouched, removed-station}
+use Rattle.area.specs.Station.{Circuit, Station, station}
+use Rattle.area.specs.Books.{holds, free, books, net}
+use Rattle.area.specs.Held.{foundAt}
+use Rattle.area.specs.Formed.{CircuitFits, Sound, WellFormed, wellFormed}
+use Rattle.area.specs.Moves.{withCircuit, withoutNumber, Untouched}
+use Rattle.area.proofs.Formed.{formed-says}
+use Rattle.area.proofs.Found.{holds-found}
+use Rattle.area.proofs.Added.{added-long, added-untouched, added-station}
+use Rattle.area.proofs.Removed.{removed-long, removed-untouched, removed-station}
 use Rattle.station.proofs.ReadCases.{links-few, held-few}
-use Rattle.station.proofs.Keeps.{sound-added, sound-removed, without-one, without-gone}
+use Rattle.area.proofs.Keeps.{sound-added, sound-removed, without-one, without-gone}
 use Rattle.booking.specs.Requests.{RequestFits, requestFits}
 use Rattle.booking.specs.Replies.{Reply, refuses, grants, releases}
 use Rattle.booking.specs.Calls.{booksIn, sought, numberFits, admitChecks, admission, booked, releaseChecks, release, cleared}

@@ -10,12 +10,12 @@ use lib.Dec.{ltb, leb}
 use lib.ListN.{getD}
 use borrow.Author.Tests.{leb-true, le-leb, lt-leb, lt-ltb, le-ltb}
 use Rattle.network.specs.declared.Request.{Request}
-use Rattle.station.specs.Station.{nodesIn, tableIn, station}
-use Rattle.station.specs.Books.{books}
-use Rattle.station.specs.Held.{foundAt}
-use Rattle.station.specs.Formed.{inRange, wellFormed}
-use Rattle.station.specs.Checks.{Check, _unless_, checked, firstFailing}
-use Rattle.station.proofs.Found.{holds-found}
+use Rattle.area.specs.Station.{nodesIn, tableIn, station}
+use Rattle.area.specs.Books.{books}
+use Rattle.area.specs.Held.{foundAt}
+use Rattle.area.specs.Formed.{inRange, wellFormed}
+use Rattle.area.specs.Checks.{Check, _unless_, checked, firstFailing}
+use Rattle.area.proofs.Found.{holds-found}
 use Rattle.booking.proofs.Passed.{count-is}
 use Rattle.booking.specs.Requests.{requestFits}
 use Rattle.booking.specs.Replies.{Reply, refuses, releases}

@@ -11,10 +11,10 @@ use Rattle.network.specs.declared.Request.{Request}
 use Rattle.ebf.specs.Alike.{Alike}
 use Rattle.ebf.specs.Search.{search}
 use Rattle.route.proofs.Result.{result-depends}
-use Rattle.station.specs.Station.{station}
-use Rattle.station.specs.Books.{Books, books, net}
-use Rattle.station.specs.Formed.{wellFormed}
-use Rattle.station.specs.Checks.{Check, _unless_, checked}
+use Rattle.area.specs.Station.{station}
+use Rattle.area.specs.Books.{Books, books, net}
+use Rattle.area.specs.Formed.{wellFormed}
+use Rattle.area.specs.Checks.{Check, _unless_, checked}
 use Rattle.station.proofs.Depends.{formed-depends}
 use Rattle.booking.specs.Requests.{requestFits}
 use Rattle.booking.specs.Replies.{Reply, refuses, releases}

@@ -16,12 +16,12 @@ use Rattle.network.specs.declared.Request.{Request}
 use Rattle.network.proofs.Short.{path-short}
 use Rattle.route.specs.declared.Grant.{Grant}
 use Rattle.route.specs.Answers as route
-use Rattle.station.specs.Station.{station, tableIn, wordsAt}
-use Rattle.station.specs.Books.{books}
-use Rattle.station.specs.Formed.{wellFormed}
-use Rattle.station.specs.Moves.{added}
-use Rattle.station.proofs.Formed.{formed-says}
-use Rattle.station.proofs.WordsAt.{words-list}
+use Rattle.area.specs.Station.{station, tableIn, wordsAt}
+use Rattle.area.specs.Books.{books}
+use Rattle.area.specs.Formed.{wellFormed}
+use Rattle.area.specs.Moves.{added}
+use Rattle.area.proofs.Formed.{formed-says}
+use Rattle.area.proofs.WordsAt.{words-list}
 use Rattle.booking.specs.declared.Answer.{Answer}
 use Rattle.booking.specs.declared.Answer.the-variants.{Refused, Granted}
 use Rattle.booking.specs.Replies.{Reply, refuses, grants, releases, answerOf, told, replyOf, pathAfter}

@@ -16,9 +16,9 @@ use Rattle.network.proofs.Tests.{fst-of, snd-of}
 use Rattle.ebf.specs.Search.{search}
 use Rattle.route.specs.Result.{Searchable, Result}
 use Rattle.route.proofs.Result.{search-result}
-use Rattle.station.specs.Books.{Books, books, net}
-use Rattle.station.specs.Formed.{WellFormed, inRange, wellFormed}
-use Rattle.station.proofs.Formed.{both, range-says, range-test, formed-says, formed-test}
+use Rattle.area.specs.Books.{Books, books, net}
+use Rattle.area.specs.Formed.{WellFormed, inRange, wellFormed}
+use Rattle.area.proofs.Formed.{both, range-says, range-test, formed-says, formed-test}
 use Rattle.booking.specs.Requests.{RequestFits, requestFits}
 use Rattle.booking.specs.Replies.{Reply, refuses, replyOf}
 use Rattle.booking.specs.Calls.{booksIn, sought, numberFits, quote, admission, release}

@@ -12,11 +12,11 @@ use borrow.Author.Tests.{eqb-true}
 use Rattle.network.specs.Lists.{All, memb}
 use Rattle.network.specs.Net.{Net, Walk, IsPath}
 use Rattle.network.proofs.Tests.{by-bool}
-use Rattle.station.specs.Station.{Table, Circuit, headOf, station}
-use Rattle.station.specs.Books.{Books, holds, books, net, whole}
-use Rattle.station.specs.Formed.{CircuitFits}
-use Rattle.station.specs.Checks.{Check, checked, pass}
-use Rattle.station.proofs.Found.{held-length}
+use Rattle.area.specs.Station.{Table, Circuit, headOf, station}
+use Rattle.area.specs.Books.{Books, holds, books, net, whole}
+use Rattle.area.specs.Formed.{CircuitFits}
+use Rattle.area.specs.Checks.{Check, checked, pass}
+use Rattle.area.proofs.Found.{held-length}
 use Rattle.booking.specs.Replies.{Reply, refuses, grants, releases}
 use Rattle.booking.specs.Calls.{booksIn}
 

@@ -7,7 +7,7 @@ use mathlib.Core.Bool.{true, false}
 use borrow.Author.Tests.{le-ltb, lt-ltb, eq-eqb, ne-eqb}
 use Rattle.network.specs.declared.Request.{Request}
 use Rattle.network.specs.Reduce.{delayBound, costBound}
-use Rattle.station.specs.Formed.{inRange}
+use Rattle.area.specs.Formed.{inRange}
 use Rattle.booking.specs.Requests.{requestFits}
 
 module _ (n : ℕ) (r : Request) where

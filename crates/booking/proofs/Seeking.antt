@@ -15,13 +15,13 @@ use Rattle.network.specs.declared.Request.{Request}
 use Rattle.network.proofs.Tests.{by-lt}
 use Rattle.ebf.specs.Search.{search}
 use Rattle.route.specs.Ready.{Ready}
-use Rattle.station.specs.Station.{tableIn, station, wordsAt}
-use Rattle.station.specs.Books.{books, net, free}
-use Rattle.station.specs.Formed.{WellFormed, wellFormed, TableFits}
+use Rattle.area.specs.Station.{tableIn, station, wordsAt}
+use Rattle.area.specs.Books.{books, net, free}
+use Rattle.area.specs.Formed.{WellFormed, wellFormed, TableFits}
 use Rattle.station.specs.Reads.{freeIn}
 use Rattle.station.specs.Units.{flag}
-use Rattle.station.proofs.Formed.{formed-says}
-use Rattle.station.proofs.WordsAt.{words-length}
+use Rattle.area.proofs.Formed.{formed-says}
+use Rattle.area.proofs.WordsAt.{words-length}
 use Rattle.booking.specs.Requests.{RequestFits}
 use Rattle.booking.specs.Replies.{replyOf}
 use Rattle.booking.specs.Calls.{booksIn, sought}

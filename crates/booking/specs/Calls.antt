@@ -7,12 +7,12 @@ use mathlib.Core.List.{List, [], _∷_, _++_}
 use lib.Dec.{ltb, leb}
 use Rattle.network.specs.declared.Request.{Request}
 use Rattle.ebf.specs.Search.{search}
-use Rattle.station.specs.Station.{station, heldIn}
-use Rattle.station.specs.Books.{Books, books, net}
-use Rattle.station.specs.Held.{foundAt}
-use Rattle.station.specs.Formed.{inRange, wellFormed}
-use Rattle.station.specs.Checks.{Check, _unless_, checked}
-use Rattle.station.specs.Moves.{added, removed}
+use Rattle.area.specs.Station.{station, heldIn}
+use Rattle.area.specs.Books.{Books, books, net}
+use Rattle.area.specs.Held.{foundAt}
+use Rattle.area.specs.Formed.{inRange, wellFormed}
+use Rattle.area.specs.Checks.{Check, _unless_, checked}
+use Rattle.area.specs.Moves.{added, removed}
 use Rattle.booking.specs.Requests.{requestFits}
 use Rattle.booking.specs.Replies.{Reply, refuses, grants, releases, replyOf}
 

@@ -9,8 +9,8 @@ use Rattle.network.specs.Net.{Net, sum}
 use Rattle.network.specs.Problem.{NoPath}
 use Rattle.network.specs.declared.Request.{Request}
 use Rattle.route.specs.Result.{Unsolved, GrantedByOne, GrantedByTwo}
-use Rattle.station.specs.Books.{Books, net}
-use Rattle.station.specs.Formed.{WellFormed}
+use Rattle.area.specs.Books.{Books, net}
+use Rattle.area.specs.Formed.{WellFormed}
 use Rattle.booking.specs.Requests.{RequestFits}
 use Rattle.booking.specs.Replies.{Reply, refuses, grants, releases}
 use Rattle.booking.specs.Calls.{booksIn}

@@ -6,8 +6,8 @@ use mathlib.Core.Bool.{true}
 use mathlib.Core.List.{List}
 use lib.ListN.{length, getD}
 use Rattle.network.specs.declared.Request.{Request}
-use Rattle.station.specs.Station.{nodesIn}
-use Rattle.station.specs.Formed.{wellFormed}
+use Rattle.area.specs.Station.{nodesIn}
+use Rattle.area.specs.Formed.{wellFormed}
 use Rattle.station.specs.Reads.{freeIn}
 use Rattle.booking.specs.Requests.{requestFits}
 

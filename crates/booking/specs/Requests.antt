@@ -6,7 +6,7 @@ use mathlib.Core.Bool.{Bool, not, _&&_}
 use lib.Dec.{ltb, eqb}
 use Rattle.network.specs.declared.Request.{Request}
 use Rattle.network.specs.Reduce.{delayBound, costBound}
-use Rattle.station.specs.Formed.{inRange}
+use Rattle.area.specs.Formed.{inRange}
 
 -- a request among n nodes
 pub record RequestFits (n : ℕ) (r : Request) : Type 0 where

@@ -1,11 +1,11 @@
 // The checks that a quote and an admission share.
 ghost use mathlib.Core.Path.{_≡_};
-ghost use Rattle.station.specs.Formed.{wellFormed};
-ghost use Rattle.station.specs.Checks.{firstFailing};
+ghost use Rattle.area.specs.Formed.{wellFormed};
+ghost use Rattle.area.specs.Checks.{firstFailing};
 ghost use Rattle.booking.specs.Calls.{quoteChecks};
 use crate::request::request_fits;
+use area::layout;
 use network::Request;
-use station::layout;
 
 // The least lengths of work memory and of a path buffer.
 const WORK: usize = 16384;

@@ -1,14 +1,14 @@
 // The ranges of a request and of a circuit number.
 ghost use mathlib.Core.Path.{_≡_};
 ghost use mathlib.Core.Bool.{true};
-ghost use Rattle.station.specs.Formed.{wellFormed};
+ghost use Rattle.area.specs.Formed.{wellFormed};
 ghost use Rattle.booking.specs.Requests.{requestFits};
 ghost use Rattle.booking.specs.Calls.{booksIn, numberFits};
+use area::held::find;
+use area::layout;
+use area::range::in_range;
 use network::Request;
 use network::link;
-use station::held::find;
-use station::layout;
-use station::range::in_range;
 
 // Whether `r` is a request among `n` nodes.
 pub fn request_fits(n: u32, r: Request) -> bool

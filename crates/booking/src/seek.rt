@@ -4,9 +4,9 @@ ghost use Rattle.booking.specs.Replies.{told, answerOf, pathAfter};
 ghost use Rattle.booking.specs.Calls.{booksIn, sought};
 ghost use Rattle.booking.specs.Ready.{Seekable};
 use crate::Answer;
+use area::layout;
 use network::Request;
 use network::link;
-use station::layout;
 use station::usable::usable;
 
 // The search's answer with document 01's numbers.

@@ -9,13 +9,13 @@ use native.Mathlib.Omega.{arith}
 use lib.ListN.{length, getD}
 use borrow.Author.Tests.{le-leb, lt-leb}
 use Rattle.station.specs.declared.Checked.{Checked}
-use Rattle.station.specs.Station.{Table, tableIn, station, wordsAt, circuits}
-use Rattle.station.specs.Formed.{inRange, linksFit, tableFits, heldFit, unitsFit, sound, wellFormed}
+use Rattle.area.specs.Station.{Table, tableIn, station, wordsAt, circuits}
+use Rattle.area.specs.Formed.{inRange, linksFit, tableFits, heldFit, unitsFit, sound, wellFormed}
 use Rattle.station.specs.Units.{left}
 use Rattle.station.specs.Reads.{freeIn}
 use Rattle.station.specs.Ready.{Links}
-use Rattle.station.proofs.Found.{held-length}
-use Rattle.station.proofs.Formed.{links-says}
+use Rattle.area.proofs.Found.{held-length}
+use Rattle.area.proofs.Formed.{links-says}
 
 -- m links that fit are links between at most 32 nodes
 pub links-ready : (n m : ℕ) (words : List ℕ) → n ≤ 32 → m ≤ 256 → length words ≡ 5 * m

@@ -13,13 +13,13 @@ use borrow.Author.Tests.{leb-true, lt-ltb, le-ltb, eq-eqb, ne-eqb, not-true, not
 use Rattle.network.specs.Loops.{every}
 use Rattle.network.proofs.Loops.{first-most}
 use Rattle.network.proofs.Tests.{by-eq, fst-of, snd-of}
-use Rattle.station.specs.Station.{wordsAt, place, circuitOf, circuitAt, circuits}
-use Rattle.station.specs.Books.{holds}
-use Rattle.station.specs.Held.{numberAt, foundAt}
-use Rattle.station.specs.Formed.{inRange, pathFits, circuitFits, heldFit}
+use Rattle.area.specs.Station.{wordsAt, place, circuitOf, circuitAt, circuits}
+use Rattle.area.specs.Books.{holds}
+use Rattle.area.specs.Held.{numberAt, foundAt}
+use Rattle.area.specs.Formed.{inRange, pathFits, circuitFits, heldFit}
 use Rattle.station.specs.Ready.{placeFits}
-use Rattle.station.proofs.WordsAt.{words-length}
-use Rattle.station.proofs.Found.{holds-found}
+use Rattle.area.proofs.WordsAt.{words-length}
+use Rattle.area.proofs.Found.{holds-found}
 
 -- ---- a number in range
 module _ (low high x : ℕ) {t : Bool} (test : t ≡ inRange low high x) (in-it : not t ≡ false) where

@@ -5,7 +5,7 @@ use mathlib.Core.Path.{_≡_, sym, _∙_, ap, subst}
 use mathlib.Core.Bool.{true, false}
 use mathlib.Core.List.{List, _∷_}
 use Prim.Native.Nat.{ℕ, zero, suc, _+_, _≤_, _<_}
-use native.Mathlib.Nat.{le-refl}
+use native.Mathlib.Nat.{add-zero, le-refl}
 use native.Mathlib.Numerals.{add-one}
 use native.Mathlib.Omega.{arith}
 use lib.Dec.{leb}
@@ -15,14 +15,14 @@ use Rattle.network.specs.Lists.{All, memb, Distinct}
 use Rattle.network.specs.Words.{field}
 use Rattle.network.proofs.Loops.{every-fails, every-all}
 use Rattle.network.proofs.Tests.{by-bool, by-eq}
-use Rattle.station.specs.Station.{Table, Circuit, wordsAt, circuitOf, circuitAt, circuits}
-use Rattle.station.specs.Books.{unitsOn, usage}
-use Rattle.station.specs.Formed.{CircuitFits, unitsFit}
+use Rattle.area.specs.Station.{Table, Circuit, wordsAt, circuitOf, circuitAt, circuits}
+use Rattle.area.specs.Books.{unitsOn, usage}
+use Rattle.area.specs.Formed.{CircuitFits, unitsFit}
 use Rattle.station.specs.Units.{enough, taken, left}
 use Rattle.station.specs.Ready.{Held}
-use Rattle.station.proofs.WordsAt.{words-length}
-use Rattle.station.proofs.PathTest.{path-links-differ, path-links-low, path-member-low}
-use Rattle.station.proofs.Formed.{held-says}
+use Rattle.area.proofs.WordsAt.{words-length}
+use Rattle.area.proofs.PathTest.{path-links-differ, path-links-low, path-member-low}
+use Rattle.area.proofs.Formed.{held-says}
 use Rattle.station.proofs.Taken.{taken-at, enough-says, enough-fails}
 
 -- ---- the circuits that are held
@@ -51,6 +51,10 @@ usage-grows w i j (suc h) low =
 -- each link's free units and what the circuits use come to its capacity
 abbrev pub Shared : List ℕ → List Circuit → List ℕ → Type 0
 Shared words cs free = (i : ℕ) → getD free i 0 + usage cs i ≡ field words i 4
+
+-- before the first circuit every link has its capacity free
+pub shared-none : (words w free : List ℕ) → ((i : ℕ) → getD free i 0 ≡ field words i 4) → Shared words (circuits w 0) free
+shared-none words w free all i = add-zero (getD free i 0) ∙ all i
 
 module _ (words : List ℕ) (cs : List Circuit) (free : List ℕ) (c : Circuit) (once : Distinct (c .path)) (shared : Shared words cs free) where
   -- where it fits, they still do when its units are taken

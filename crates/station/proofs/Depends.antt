@@ -9,14 +9,14 @@ use native.Mathlib.Omega.{arith}
 use lib.Dec.{ltb, leb}
 use lib.ListN.{length, getD}
 use Rattle.network.proofs.Tests.{by-eq}
-use Rattle.station.specs.Station.{Circuit, Station, circuits, station, tableIn}
-use Rattle.station.specs.Books.{free}
-use Rattle.station.specs.Held.{numberAt, numbersFrom}
-use Rattle.station.specs.Formed.{sound, wellFormed}
-use Rattle.station.specs.Checks.{_unless_, checked}
+use Rattle.area.specs.Station.{Circuit, Station, circuits, station, tableIn}
+use Rattle.area.specs.Books.{free}
+use Rattle.area.specs.Held.{numberAt, numbersFrom}
+use Rattle.area.specs.Formed.{sound, wellFormed}
+use Rattle.area.specs.Checks.{_unless_, checked}
 use Rattle.station.specs.declared.Reading.the-variants.{Refused, Value}
 use Rattle.station.specs.Reads.{listAnswer, freeAnswer}
-use Rattle.station.proofs.Found.{circuit-number, held-length}
+use Rattle.area.proofs.Found.{circuit-number, held-length}
 
 module _ (w w' : List ℕ) (long : leb 3459 (length w) ≡ leb 3459 (length w')) (same : station w ≡ station w') where
   pub formed-depends : wellFormed w ≡ wellFormed w'

@@ -1,16 +1,5 @@
-pub mod WordsAt
-pub mod Found
 pub mod LinkTest
-pub mod PathTest
-pub mod Formed
-pub mod StationWords
-pub mod Added
-pub mod Removed
-pub mod FreeUnits
-pub mod Keeps
-pub mod Order
 pub mod Loads
-pub mod Stores
 pub mod LoadCases
 pub mod Onward
 pub mod CircuitCases

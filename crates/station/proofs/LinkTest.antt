@@ -7,8 +7,8 @@ use Prim.Native.Nat.{ℕ, _≤_, _<_}
 use lib.Dec.{leb}
 use borrow.Author.Tests.{le-leb, lt-leb, le-ltb, lt-ltb, eq-eqb, ne-eqb}
 use Rattle.network.specs.Words.{field}
-use Rattle.station.specs.Station.{Table}
-use Rattle.station.specs.Formed.{linkFits}
+use Rattle.area.specs.Station.{Table}
+use Rattle.area.specs.Formed.{linkFits}
 
 module _ (n m : ℕ) (words : List ℕ) (i : ℕ) where
   abbrev t : Table

@@ -10,7 +10,7 @@ use lib.ListN.{length, set}
 use lib.Seq.{sets, sets-eq}
 use borrow.Author.Tests.{le-leb, lt-leb, eq-eqb, ne-eqb}
 use Rattle.station.specs.declared.Loading.the-variants.{Refused, Loaded}
-use Rattle.station.specs.Formed.{inRange, linksFit}
+use Rattle.area.specs.Formed.{inRange, linksFit}
 use Rattle.station.specs.Load.{tableOf, loadAnswer, loaded, areaLoaded}
 
 -- n, m and 0 over the first three words, and the links behind them

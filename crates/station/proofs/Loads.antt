@@ -11,12 +11,12 @@ use lib.ListN.{length, getD, drop, length-append, length-drop, List·getD-append
 use lib.Seq.{getD-append-add, getD-drop}
 use borrow.Author.Tests.{leb-true, eqb-true}
 use Rattle.network.proofs.Tests.{fst-of, snd-of}
-use Rattle.station.specs.Station.{wordsAt, station, tableIn}
-use Rattle.station.specs.Formed.{Sound, WellFormed, inRange, linksFit}
-use Rattle.station.specs.Checks.{pass}
+use Rattle.area.specs.Station.{wordsAt, station, tableIn}
+use Rattle.area.specs.Formed.{Sound, WellFormed, inRange, linksFit}
+use Rattle.area.specs.Checks.{pass}
 use Rattle.station.specs.Load.{tableOf, fresh, loadChecks, loaded}
-use Rattle.station.proofs.Formed.{range-says, links-says}
-use Rattle.station.proofs.WordsAt.{words-list}
+use Rattle.area.proofs.Formed.{range-says, links-says}
+use Rattle.area.proofs.WordsAt.{words-list}
 
 module _ (w : List ℕ) (n : ℕ) (links : List ℕ) where
   -- the words past the links keep their contents

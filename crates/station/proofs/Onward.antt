@@ -14,7 +14,7 @@ use borrow.Author.Tests.{ltb-true, lt-ltb, le-ltb, eq-eqb, ne-eqb, not-true, not
 use Rattle.network.specs.NodeSet.{member, inserted}
 use Rattle.network.specs.Words.{field}
 use Rattle.network.proofs.Tests.{fst-of}
-use Rattle.station.specs.Formed.{goesOn, onward, pathFits}
+use Rattle.area.specs.Formed.{goesOn, onward, pathFits}
 
 module _ (m : ℕ) (words : List ℕ) where
   -- ---- one link, one answer for each of the code's returns

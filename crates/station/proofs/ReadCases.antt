@@ -9,12 +9,12 @@ use native.Mathlib.Omega.{arith}
 use lib.ListN.{length, getD, drop}
 use borrow.Author.Tests.{le-leb, lt-leb, le-ltb, lt-ltb}
 use Rattle.station.specs.declared.Reading.the-variants.{Refused, Value}
-use Rattle.station.specs.Station.{station, tableIn}
-use Rattle.station.specs.Held.{numbersFrom}
-use Rattle.station.specs.Formed.{WellFormed, wellFormed}
+use Rattle.area.specs.Station.{station, tableIn}
+use Rattle.area.specs.Held.{numbersFrom}
+use Rattle.area.specs.Formed.{WellFormed, wellFormed}
 use Rattle.station.specs.Reads.{listAnswer, listed, Lists, freeAnswer, freeIn}
-use Rattle.station.proofs.Found.{held-length, listing-means}
-use Rattle.station.proofs.Formed.{formed-says}
+use Rattle.area.proofs.Found.{held-length, listing-means}
+use Rattle.area.proofs.Formed.{formed-says}
 
 -- the counts that the words 1 and 2 hold
 pub links-few : (w : List ℕ) → WellFormed w → getD w 1 0 ≤ 256

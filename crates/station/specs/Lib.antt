@@ -1,11 +1,4 @@
-pub mod Station
-pub mod Books
-pub mod Held
-pub mod Formed
 pub mod Units
 pub mod Ready
-pub mod Moves
-pub mod Order
-pub mod Checks
 pub mod Load
 pub mod Reads

@@ -7,9 +7,9 @@ use lib.Dec.{leb, eqb}
 use lib.ListN.{length, drop}
 use Rattle.station.specs.declared.Loading.{Loading}
 use Rattle.station.specs.declared.Loading.the-variants.{Refused, Loaded}
-use Rattle.station.specs.Station.{Table, Station}
-use Rattle.station.specs.Formed.{inRange, linksFit}
-use Rattle.station.specs.Checks.{Check, _unless_, checked, pass}
+use Rattle.area.specs.Station.{Table, Station}
+use Rattle.area.specs.Formed.{inRange, linksFit}
+use Rattle.area.specs.Checks.{Check, _unless_, checked, pass}
 
 -- the table that n and the link words describe
 abbrev pub tableOf : ℕ → List ℕ → Table

@@ -8,11 +8,11 @@ use lib.Dec.{ltb, leb}
 use lib.ListN.{length, drop}
 use Rattle.station.specs.declared.Reading.{Reading}
 use Rattle.station.specs.declared.Reading.the-variants.{Refused, Value}
-use Rattle.station.specs.Station.{station, linksIn, heldIn}
-use Rattle.station.specs.Books.{free}
-use Rattle.station.specs.Held.{numbersFrom, ListsHeld}
-use Rattle.station.specs.Formed.{wellFormed}
-use Rattle.station.specs.Checks.{Check, _unless_, checked, pass}
+use Rattle.area.specs.Station.{station, linksIn, heldIn}
+use Rattle.area.specs.Books.{free}
+use Rattle.area.specs.Held.{numbersFrom, ListsHeld}
+use Rattle.area.specs.Formed.{wellFormed}
+use Rattle.area.specs.Checks.{Check, _unless_, checked, pass}
 
 abbrev pub listChecks : List ℕ → ℕ → List Check
 listChecks w room = (5 unless wellFormed w) ∷ (14 unless leb (heldIn w) room) ∷ []

@@ -6,9 +6,9 @@ use mathlib.Core.Bool.{Bool, true, not, _&&_}
 use mathlib.Core.List.{List}
 use lib.ListN.{length}
 use Rattle.network.specs.Words.{field}
-use Rattle.station.specs.Station.{circuitOf, circuitAt, circuits}
-use Rattle.station.specs.Books.{holds}
-use Rattle.station.specs.Formed.{circuitFits, heldFit}
+use Rattle.area.specs.Station.{circuitOf, circuitAt, circuits}
+use Rattle.area.specs.Books.{holds}
+use Rattle.area.specs.Formed.{circuitFits, heldFit}
 
 -- m links between at most 32 nodes
 pub record Links (m : ℕ) (words : List ℕ) : Type 0 where

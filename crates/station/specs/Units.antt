@@ -6,9 +6,9 @@ use mathlib.Core.List.{List, [], _∷_}
 use lib.Dec.{leb}
 use lib.ListN.{getD, set}
 use Rattle.network.specs.Words.{field}
-use Rattle.station.specs.Station.{Circuit}
-use Rattle.station.specs.Books.{usage}
-use Rattle.station.specs.Formed.{unitsFit}
+use Rattle.area.specs.Station.{Circuit}
+use Rattle.area.specs.Books.{usage}
+use Rattle.area.specs.Formed.{unitsFit}
 
 -- link i has u units less
 abbrev pub less : ℕ → ℕ → List ℕ → List ℕ

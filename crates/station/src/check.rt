@@ -2,15 +2,15 @@
 ghost use mathlib.Core.Path.{_≡_};
 ghost use Prim.Native.Nat.{ℕ};
 ghost use lib.ListN.{getD};
-ghost use Rattle.station.specs.Formed.{wellFormed};
+ghost use Rattle.area.specs.Formed.{wellFormed};
 ghost use Rattle.station.specs.Reads.{freeIn};
 use crate::Checked;
 use crate::circuits::circuits_fit;
-use crate::layout;
-use crate::range::in_range;
 use crate::table::links_fit;
 use crate::units::take_circuits;
 use crate::units::unfit;
+use area::layout;
+use area::range::in_range;
 use network::link;
 
 // Whether the area is well formed, and every link's free units.

@@ -2,12 +2,12 @@
 ghost use mathlib.Core.Path.{_≡_};
 ghost use Prim.Native.Nat.{_≤_, _<_};
 ghost use lib.ListN.{length};
-ghost use Rattle.station.specs.Station.{circuitOf, circuits};
-ghost use Rattle.station.specs.Formed.{goesOn, pathFits, circuitFits, heldFit};
+ghost use Rattle.area.specs.Station.{circuitOf, circuits};
+ghost use Rattle.area.specs.Formed.{goesOn, pathFits, circuitFits, heldFit};
 ghost use Rattle.station.specs.Ready.{Links, Room, placeFits};
-use crate::held::find;
-use crate::layout;
-use crate::range::in_range;
+use area::held::find;
+use area::layout;
+use area::range::in_range;
 use network::link;
 use network::node_set;
 

@@ -1,16 +1,12 @@
-// The station area of document 01: its layout, loading, the check that it is well formed, free units and usable links,
-// and the listing of held circuits. The area is a lent slice of words, read and written by index.
+// The calls of document 01 that need no search: load, listing and free units; and the check that an area is well formed,
+// which every call but Load begins with, with each link's free units and the flags of usable links.
 //
-// The calls `load`, `list` and `free_units` take anything. The other functions are building blocks of theirs and of the
-// calls of the upper crate; what they require, those calls have checked.
+// The calls `load`, `list` and `free_units`, and `check` and `usable`, take anything. What the functions below them
+// require, their callers have checked.
 pub mod check;
 mod circuits;
-pub mod held;
-pub mod layout;
 pub mod load;
-pub mod range;
 pub mod reads;
-pub mod store;
 mod table;
 mod units;
 pub mod usable;

@@ -3,12 +3,12 @@ ghost use mathlib.Core.Path.{_≡_};
 ghost use mathlib.Core.List.{_++_};
 ghost use Prim.Native.Nat.{_≤_};
 ghost use lib.ListN.{length, drop};
-ghost use Rattle.station.specs.Held.{numbersFrom};
+ghost use Rattle.area.specs.Held.{numbersFrom};
 ghost use Rattle.station.specs.Reads.{listAnswer, listed, Lists, freeAnswer};
 ghost use Rattle.station.specs.Ready.{Room};
 use crate::Reading;
 use crate::check::check;
-use crate::layout;
+use area::layout;
 use network::link;
 
 // The numbers of the first `h` circuits.

@@ -4,12 +4,12 @@ ghost use mathlib.Core.Path.{_≡_};
 ghost use mathlib.Core.Bool.{true, false};
 ghost use Prim.Native.Nat.{ℕ, _≤_, _<_};
 ghost use lib.ListN.{length, getD};
-ghost use Rattle.station.specs.Station.{circuitOf, circuits};
-ghost use Rattle.station.specs.Formed.{unitsFit};
+ghost use Rattle.area.specs.Station.{circuitOf, circuits};
+ghost use Rattle.area.specs.Formed.{unitsFit};
 ghost use Rattle.station.specs.Units.{enough, taken, left};
 ghost use Rattle.station.specs.Ready.{Links, Held};
 use crate::Checked;
-use crate::layout;
+use area::layout;
 use network::link;
 use network::link::column;
 

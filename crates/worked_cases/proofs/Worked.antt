@@ -20,8 +20,8 @@ use Rattle.ebf.specs.Trace.{trailBack, stepBack, traced}
 use Rattle.ebf.specs.Solve.{pathIn, answerIn, solveIn, solve}
 use Rattle.ebf.specs.Distance.{spread, layer, distance}
 use Rattle.ebf.specs.Search.{tried, search}
-use Rattle.station.specs.Station.{tableIn, circuitOf, station}
-use Rattle.station.specs.Books.{books, net}
+use Rattle.area.specs.Station.{tableIn, circuitOf, station}
+use Rattle.area.specs.Books.{books, net}
 use Rattle.station.specs.Load.{loadAnswer}
 use Rattle.booking.specs.Replies.{Reply}
 use Rattle.booking.specs.Calls.{quote, admission}

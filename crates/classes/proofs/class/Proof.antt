@@ -3,6 +3,7 @@
 use mathlib.Core.Path.{_≡_, refl, sym, ap, _∙_}
 use mathlib.Core.List.{List, [], _∷_, map}
 use Prim.Native.Nat.{ℕ, _≤_}
+use native.Mathlib.Omega.{arith}
 use borrow.Author.Needs.{needs}
 use borrow.Author.Tests.{le-leb, lt-leb}
 use lib.ListN.{getD, List·getD-map}
@@ -37,7 +38,7 @@ row-of k low =
 
 returns : tie.Need-returns
 unfolding classAnswer
-returns c = simp (lt-leb _ _ (c .if1 .taken))
+returns c = simp (lt-leb (c .before .args .k) 5 (omega arith))
 
 mul-row : tie.Need-mul-row
 mul-row c = search needs

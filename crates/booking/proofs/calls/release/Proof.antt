@@ -8,9 +8,9 @@ use native.Mathlib.Omega.{arith}
 use lib.ListN.{getD}
 use borrow.Author.Needs.{needs}
 use borrow.Author.Tests.{not-true, not-false}
-use Rattle.station.specs.Held.{foundAt}
-use Rattle.station.specs.Formed.{wellFormed}
-use Rattle.station.specs.Moves.{removed}
+use Rattle.area.specs.Held.{foundAt}
+use Rattle.area.specs.Formed.{wellFormed}
+use Rattle.area.specs.Moves.{removed}
 use Rattle.station.proofs.ReadCases.{formed-long, formed-held}
 use Rattle.booking.specs.declared.Answer.{Answer}
 use Rattle.booking.specs.declared.Answer.the-variants.{Refused, Released}

@@ -11,8 +11,8 @@ use borrow.Author.Needs.{needs}
 use borrow.Author.Tests.{not-true, not-false, eq-eqb, ne-eqb}
 use Rattle.network.proofs.Loops.{first-most}
 use Rattle.network.proofs.Tests.{by-lt}
-use Rattle.station.specs.Held.{numberAt, foundAt}
-use Rattle.station.specs.Formed.{inRange}
+use Rattle.area.specs.Held.{numberAt, foundAt}
+use Rattle.area.specs.Formed.{inRange}
 use Rattle.station.proofs.ReadCases.{formed-long, formed-held}
 use Rattle.booking.specs.Calls.{booksIn, numberFits}
 use Rattle.booking.proofs.CallCases.{number-out, number-held, number-new}

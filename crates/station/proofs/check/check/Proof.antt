@@ -5,7 +5,7 @@ use native.Mathlib.Omega.{arith}
 use borrow.Author.Needs.{needs}
 use borrow.Author.Tests.{not-true, not-false}
 use lib.ListN.{getD}
-use Rattle.station.proofs.Formed.{range-says}
+use Rattle.area.proofs.Formed.{range-says}
 use Rattle.station.proofs.CircuitCases.{part-length}
 use Rattle.station.proofs.CheckCases.{links-ready, units-decide, area-short, nodes-out, links-many, link-out, circuits-many, circuit-out, links-same, held-same, units-same, left-same}
 use Rattle.station.proofs.check.check.Statement.{statement}

@@ -6,7 +6,7 @@ use Prim.Native.Nat.{_-_, _≤_}
 use native.Mathlib.Omega.{arith}
 use borrow.Author.Needs.{needs}
 use lib.ListN.{length, drop}
-use Rattle.station.specs.Formed.{onward, pathFits}
+use Rattle.area.specs.Formed.{onward, pathFits}
 use Rattle.station.proofs.Onward.{link-inside, start-past, path-begins, path-goes, path-stops, path-ends}
 use Rattle.station.proofs.circuits.path_fits.Statement.{statement}
 use Rattle.station.proofs.circuits.path_fits.Tie as tie

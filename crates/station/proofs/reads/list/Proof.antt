@@ -7,7 +7,7 @@ use native.Mathlib.Omega.{arith}
 use borrow.Author.Needs.{needs}
 use borrow.Author.Tests.{not-true, not-false}
 use lib.ListN.{drop}
-use Rattle.station.specs.Held.{numbersFrom}
+use Rattle.area.specs.Held.{numbersFrom}
 use Rattle.station.proofs.ReadCases.{formed-long, formed-held, list-unfit, list-short, list-all, lists}
 use Rattle.station.proofs.reads.list.Statement.{statement}
 use Rattle.station.proofs.reads.list.Tie as tie

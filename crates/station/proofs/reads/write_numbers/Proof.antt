@@ -6,8 +6,8 @@ use native.Mathlib.Omega.{arith}
 use borrow.Author.Needs.{needs}
 use lib.ListN.{length, length-set}
 use lib.Seq.{sets}
-use Rattle.station.specs.Held.{numbersFrom}
-use Rattle.station.proofs.Stores.{number-none, number-turn, number-end, numbers-stored}
+use Rattle.area.specs.Held.{numbersFrom}
+use Rattle.area.proofs.Stores.{number-none, number-turn, number-end, numbers-stored}
 use Rattle.station.proofs.reads.write_numbers.Statement.{statement}
 use Rattle.station.proofs.reads.write_numbers.Tie as tie
 

@@ -37,7 +37,7 @@ word-requires-5 : tie.Need-word-requires-5
 word-requires-5 c κs = search needs
 
 returns-6 : tie.Need-returns-6
-returns-6 c = let start = c .before .before .before .before .before .before .before .before .before .before .before in rw (c .word5 .ensures) (capacity-left _ _ (start .args .links .now) _ (omega arith) (omega arith) (λ e. omega arith) (omega arith) (omega arith))
+returns-6 c = let start = c .before .before .before .before .before .before .before .before .before .before .before in rw (c .word5 .ensures) (capacity-left (start .args .n) (start .args .m) (start .args .links .now) (start .args .i) (omega arith) (omega arith) (λ e. omega arith) (omega arith) (omega arith))
 
 pub link-fits-spec : {M : Type 1} → statement M
 link-fits-spec =

@@ -8,7 +8,7 @@ use borrow.Author.Needs.{needs}
 use borrow.Author.Tests.{not-true, not-false}
 use Rattle.network.specs.Loops.{every}
 use Rattle.network.proofs.Loops.{every-none, every-more, every-done, every-fails}
-use Rattle.station.specs.Formed.{linkFits, linksFit}
+use Rattle.area.specs.Formed.{linkFits, linksFit}
 use Rattle.station.proofs.table.links_fit.Statement.{statement}
 use Rattle.station.proofs.table.links_fit.Tie as tie
 

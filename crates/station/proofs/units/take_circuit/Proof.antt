@@ -7,7 +7,7 @@ use Prim.Native.Nat.{ℕ, _<_}
 use native.Mathlib.Omega.{arith}
 use borrow.Author.Needs.{needs}
 use lib.ListN.{length, getD}
-use Rattle.station.specs.Station.{circuitOf}
+use Rattle.area.specs.Station.{circuitOf}
 use Rattle.station.specs.Units.{enough, taken}
 use Rattle.station.proofs.CircuitUnits.{path-words, path-length}
 use Rattle.station.proofs.units.take_circuit.Statement.{statement}

@@ -5,17 +5,16 @@ use mathlib.Core.Path.{_≡_, sym, _∙_, ap, subst}
 use mathlib.Core.Bool.{Bool, true, false}
 use mathlib.Core.List.{List}
 use Prim.Native.Nat.{ℕ, _+_, _-_, _≤_, _<_}
-use native.Mathlib.Nat.{add-zero}
 use native.Mathlib.Omega.{arith}
 use borrow.Author.Needs.{needs}
 use borrow.Author.Tests.{not-true, not-false}
 use lib.ListN.{length, getD}
-use Rattle.station.specs.Station.{Circuit, wordsAt, place, circuitOf, circuits}
-use Rattle.station.specs.Formed.{CircuitFits, unitsFit}
+use Rattle.area.specs.Station.{Circuit, wordsAt, place, circuitOf, circuits}
+use Rattle.area.specs.Formed.{CircuitFits, unitsFit}
 use Rattle.station.specs.Units.{enough, taken, left}
 use Rattle.station.specs.Ready.{Held}
-use Rattle.station.proofs.WordsAt.{words-length}
-use Rattle.station.proofs.CircuitUnits.{Shared, tableWith, circuit-held, circuit-short, circuit-low, circuits-more, circuits-over, shared-fit, left-some, left-none}
+use Rattle.area.proofs.WordsAt.{words-length}
+use Rattle.station.proofs.CircuitUnits.{Shared, tableWith, circuit-held, circuit-short, circuit-low, shared-none, circuits-more, circuits-over, shared-fit, left-some, left-none}
 use Rattle.station.proofs.units.take_circuits.Statement.{statement}
 use Rattle.station.proofs.units.take_circuits.Tie as tie
 
@@ -67,7 +66,9 @@ column-requires : tie.Need-column-requires Inv-loop μ-loop
 column-requires c κs = search needs
 
 loop-holds : tie.Need-loop-holds Inv-loop μ-loop
-loop-holds c = ((λ i. add-zero _ ∙ c .column .ensures i), search needs)
+loop-holds c =
+    let a = c .before .before .before .args in
+    (shared-none (a .links .now) (a .area .now) (c .column .result) (c .column .ensures), search needs)
 
 place-requires : tie.Need-place-requires Inv-loop μ-loop
 place-requires c κs = search needs

@@ -1,0 +1,11 @@
+pub mod WordsAt
+pub mod Found
+pub mod PathTest
+pub mod Formed
+pub mod StationWords
+pub mod Added
+pub mod Removed
+pub mod FreeUnits
+pub mod Keeps
+pub mod Order
+pub mod Stores

@@ -1,0 +1,20 @@
+// The numbers of held circuits.
+ghost use mathlib.Core.Path.{_≡_};
+ghost use Prim.Native.Nat.{_≤_};
+ghost use lib.ListN.{length};
+ghost use Rattle.area.specs.Held.{foundAt};
+use crate::layout;
+
+// The place of the first of `h` circuits that has this number, or `h` where none has it.
+pub fn find(area: &[u32], h: usize, number: u32) -> usize
+    requires { ⌜ (h ≤ 64) × (3459 ≤ length (now area)) ⌝ }
+    ensures { λ r. ⌜ r ≡ foundAt (now (area .entry)) h number ⌝ }
+{
+    for j in 0..h {
+        let at = layout::place(j);
+        if number == area[at] {
+            return j;
+        }
+    }
+    h
+}
