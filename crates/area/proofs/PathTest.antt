@@ -2,7 +2,7 @@
 -- holds just the nodes that were passed, so no node is passed twice.
 -- Assumes nothing.
 use mathlib.Core.Path.{_≡_, refl, sym, _∙_, ap, subst}
-use mathlib.Core.Bool.{Bool, true, false, not, _&&_, _||_, false≢true}
+use mathlib.Core.Bool.{true, false, not, _&&_, false≢true}
 use mathlib.Core.List.{List, [], _∷_, map}
 use Prim.Native.Nat.{ℕ, zero, suc, _<_}
 use native.Mathlib.Omega.{arith}
@@ -12,6 +12,7 @@ use borrow.Author.Tests.{ltb-true, eqb-true, lt-ltb, eq-eqb, not-true}
 use Rattle.network.specs.Lists.{All, memb, Distinct}
 use Rattle.network.specs.NodeSet.{member, inserted}
 use Rattle.network.specs.Net.{Walk}
+use Rattle.network.proofs.Paths.{walk-links}
 use Rattle.network.proofs.NodeSet.{member-empty, member-inserted, member-others}
 use Rattle.network.proofs.Tests.{fst-of, snd-of}
 use Rattle.area.specs.Station.{Table, tailOf, headOf}
@@ -128,14 +129,6 @@ module _ (t : Table) where
   pub path-links-low : (p : List ℕ) → PathOf t p → (k : ℕ) → k < length p → getD p k 0 < t .links
   path-links-low p (s, e, path) = walk-low s e p (path .walk)
 
-  walk-member : (s e : ℕ) (p : List ℕ) → Walk (whole t) s e p → (i : ℕ) → memb i p ≡ true → i < t .links
-  unfolding whole
-  walk-member s e [] walk i h = absurd (false≢true h)
-  walk-member s e (j ∷ p) walk i h = go (eqb i j) refl h (walk-member (headOf t j) e p (walk .3) i)
-    where
-      go : (b : Bool) → eqb i j ≡ b → (b || memb i p) ≡ true → (memb i p ≡ true → i < t .links) → i < t .links
-      go true q h on = rw (eqb-true i j q) (walk .0)
-      go false q h on = on h
-
   pub path-member-low : (p : List ℕ) → PathOf t p → (i : ℕ) → memb i p ≡ true → i < t .links
-  path-member-low p (s, e, path) = walk-member s e p (path .walk)
+  unfolding whole
+  path-member-low p (s, e, path) i h = walk-links (whole t) s e p (path .walk) i h .0

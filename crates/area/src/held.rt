@@ -5,7 +5,8 @@ ghost use lib.ListN.{length};
 ghost use Rattle.area.specs.Held.{foundAt};
 use crate::layout;
 
-// The place of the first of `h` circuits that has this number, or `h` where none has it.
+// The place of the first of `h` circuits that has this number, or `h` where none has it. The check of an area has seen
+// to its length and to `h` before it asks, and every call asks only on an area that passed it.
 pub fn find(area: &[u32], h: usize, number: u32) -> usize
     requires { ⌜ (h ≤ 64) × (3459 ≤ length (now area)) ⌝ }
     ensures { λ r. ⌜ r ≡ foundAt (now (area .entry)) h number ⌝ }

@@ -5,7 +5,7 @@ ghost use lib.ListN.{length};
 ghost use lib.Seq.{sets};
 ghost use Rattle.area.specs.Station.{place, wordsAt};
 
-// The least length of an area, of work memory and of a path buffer are document 01's.
+// The least length of an area.
 pub const AREA: usize = 3459;
 
 // Words 0 to 2: n, m and h.
@@ -21,7 +21,7 @@ pub const FIRST_LINK: usize = 3;
 // A circuit's words: number, units, link count, then the path.
 pub const CIRCUIT: usize = 34;
 
-// Where circuit `j` begins.
+// Where circuit `j` begins. The callers count circuits, of which a checked area has at most 64.
 pub fn place(j: usize) -> usize
     requires { ⌜ j ≤ 64 ⌝ }
     ensures { λ r. ⌜ r ≡ place j ⌝ }
@@ -38,7 +38,7 @@ pub fn part(words: &[u32], at: usize, n: usize) -> &[u32]
     &words[at..end]
 }
 
-// Puts `words` into the area from `at` on.
+// Puts `words` into the area from `at` on. Load has checked the length of the area, and an admission its circuit count.
 pub fn put(area: &mut [u32], at: usize, words: &[u32])
     requires { ⌜ at + length (now words) ≤ length (now area) ⌝ }
     ensures { λ _. ⌜ now (area .exit) ≡ sets (now (area .entry)) at (now (words .entry)) ⌝ }

@@ -6,7 +6,8 @@ ghost use Rattle.area.specs.Moves.{added, closed, removed};
 use crate::layout;
 use network::link;
 
-// Puts a circuit behind the last one.
+// Puts a circuit behind the last one. An admission has checked the area and that fewer than 64 are held, and a granted
+// path has at most 31 links.
 pub fn add(area: &mut [u32], number: u32, units: u32, path: &[u32])
     requires { ⌜ 3459 ≤ length (now area) ⌝ }
     requires { ⌜ getD (now area) 2 0 < 64 ⌝ }
@@ -33,7 +34,7 @@ fn close(area: &mut [u32], at: usize, end: usize)
     }
 }
 
-// Takes circuit `j` out: those behind it move up.
+// Takes circuit `j` out: those behind it move up. A release has checked the area and found the circuit.
 pub fn remove(area: &mut [u32], j: usize)
     requires { ⌜ 3459 ≤ length (now area) ⌝ }
     requires { ⌜ getD (now area) 2 0 ≤ 64 ⌝ }

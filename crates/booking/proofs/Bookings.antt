@@ -14,6 +14,7 @@ use Rattle.network.specs.Lists.{memb}
 use Rattle.network.specs.Net.{Net, IsPath}
 use Rattle.network.specs.declared.Request.{Request}
 use Rattle.network.proofs.Tests.{fst-of, snd-of}
+use Rattle.network.proofs.Paths.{walk-links}
 use Rattle.network.proofs.Short.{path-short}
 use Rattle.area.specs.Station.{Circuit, Station, station}
 use Rattle.area.specs.Books.{holds, free, books, net}
@@ -30,7 +31,7 @@ use Rattle.booking.specs.Requests.{RequestFits, requestFits}
 use Rattle.booking.specs.Replies.{Reply, refuses, grants, releases}
 use Rattle.booking.specs.Calls.{booksIn, sought, numberFits, admitChecks, admission, booked, releaseChecks, release, cleared}
 use Rattle.booking.specs.Meaning.{Answered, Grant, by-one, by-two, searchRules, NumberFits, netFor}
-use Rattle.booking.proofs.Passed.{all-pass, granted-not-refused, released-not-refused, whole-path, walk-usable, some-link, count-is, held-number}
+use Rattle.booking.proofs.Passed.{all-pass, granted-not-refused, released-not-refused, whole-path, some-link, count-is, held-number}
 use Rattle.booking.proofs.Meaning.{request-says, number-says, area-searchable, sought-means}
 
 -- a granted path is a usable path
@@ -39,11 +40,19 @@ grant-path (by-one p h) = h .2 .solves .path
 grant-path (by-two p h) = h .3 .solves .path
 
 -- a search that ends with a grant
-searched : (g : Net) (r : Request) (k d x : ℕ) (p : List ℕ) → Answered (Grant g r) (searchRules g r) (grants k d x p) → Grant g r (grants k d x p)
+pub searched : (g : Net) (r : Request) (k d x : ℕ) (p : List ℕ) → Answered (Grant g r) (searchRules g r) (grants k d x p) → Grant g r (grants k d x p)
 unfolding Answered
 searched g r k d x p (inl (h, e)) = absurd (granted-not-refused k d x p 9 (sym e))
 searched g r k d x p (inr (n, inl (h, e))) = absurd (granted-not-refused k d x p 10 (sym e))
 searched g r k d x p (inr (n, inr (m, h))) = h
+
+-- a path of the network that a request sees has at most 31 links, since it has fewer than there are nodes
+pub seen-short : (w : List ℕ) (r : Request) → WellFormed w → RequestFits (booksIn w .table .nodes) r
+    → (p : List ℕ) → IsPath (netFor w r) (r .source) (r .target) p
+    → length p ≤ 31
+seen-short w r formed fits p path =
+    let ok = area-searchable w r formed fits in
+    omega (arith, path-short (netFor w r) (ok .ends) (r .source) (r .target) (ok .source) p path, ok .few)
 
 -- ---- a granted admission
 -- the circuit that a grant makes
@@ -83,9 +92,7 @@ module _ (w : List ℕ) (work room c : ℕ) (r : Request) (k d x : ℕ) (p : Lis
   path = grant-path (admission-granted .grant)
 
   short : length p ≤ 31
-  short =
-      let ok = area-searchable w r (admission-granted .formed) (admission-granted .request) in
-      omega (arith, path-short (netFor w r) (ok .ends) (r .source) (r .target) (ok .source) p path, ok .few)
+  short = seen-short w r (admission-granted .formed) (admission-granted .request) p path
 
   -- the circuit fits the table
   pub admitted-fits : CircuitFits (station w .table) (circuitFor c r p)
@@ -105,7 +112,7 @@ module _ (w : List ℕ) (work room c : ℕ) (r : Request) (k d x : ℕ) (p : Lis
   pub admitted-free : (i : ℕ) → memb i p ≡ true → r .units ≤ free (station w) i
   unfolding net books
   admitted-free i h =
-      leb-true (r .units) (free (station w) i) (walk-usable (netFor w r) (r .source) (r .target) p (path .walk) i h)
+      leb-true (r .units) (free (station w) i) (walk-links (netFor w r) (r .source) (r .target) p (path .walk) i h .1)
 
   -- the station after has the circuit more, and no other change
   pub admitted-station : station (booked w c (r .units) (grants k d x p)) ≡ withCircuit (station w) (circuitFor c r p)

@@ -14,12 +14,12 @@ use Rattle.area.specs.Station.{nodesIn, tableIn, station}
 use Rattle.area.specs.Books.{books}
 use Rattle.area.specs.Held.{foundAt}
 use Rattle.area.specs.Formed.{inRange, wellFormed}
-use Rattle.area.specs.Checks.{Check, _unless_, checked, firstFailing}
+use Rattle.area.specs.Checks.{Check, checked, firstFailing}
 use Rattle.area.proofs.Found.{holds-found}
 use Rattle.booking.proofs.Passed.{count-is}
 use Rattle.booking.specs.Requests.{requestFits}
 use Rattle.booking.specs.Replies.{Reply, refuses, releases}
-use Rattle.booking.specs.Calls.{booksIn, numberFits, quoteChecks, sought, quote, admission, release}
+use Rattle.booking.specs.Calls.{booksIn, numberFits, numberChecks, quoteChecks, sought, quote, admission, release}
 
 -- ---- the first check that fails decides, whatever follows
 pub first-fails : (cs more : List Check) (a : Reply) (k : ℕ) → k ≡ firstFailing cs → (k ≡ 0 → ⊥) → refuses k ≡ checked refuses (cs ++ more) a
@@ -94,11 +94,8 @@ quote-refused w work room r k e some = first-fails (quoteChecks w work room r) [
 pub quote-passed : (w : List ℕ) (work room : ℕ) (r : Request) → Passed w work room r → sought (booksIn w) r ≡ quote w work room r
 quote-passed w work room r p = rest-left w work room r p [] (sought (booksIn w) r) ∙ quote-is w work room r
 
-abbrev pub ownChecks : List ℕ → ℕ → List Check
-ownChecks w c = (11 unless numberFits (booksIn w) c) ∷ (12 unless ltb (booksIn w .count) 64) ∷ []
-
 pub admission-is : (w : List ℕ) (work room c : ℕ) (r : Request)
-    → checked refuses (quoteChecks w work room r ++ ownChecks w c) (sought (booksIn w) r) ≡ admission w work room c r
+    → checked refuses (quoteChecks w work room r ++ numberChecks (booksIn w) c) (sought (booksIn w) r) ≡ admission w work room c r
 unfolding admission
 admission-is w work room c r = refl
 
@@ -124,11 +121,11 @@ module _ (w : List ℕ) where
   pub admission-refused : (work room c : ℕ) (r : Request) (k : ℕ) → k ≡ firstFailing (quoteChecks w work room r) → (k ≡ 0 → ⊥)
       → refuses k ≡ admission w work room c r
   admission-refused work room c r k e some =
-      first-fails (quoteChecks w work room r) (ownChecks w c) (sought (booksIn w) r) k e some ∙ admission-is w work room c r
+      first-fails (quoteChecks w work room r) (numberChecks (booksIn w) c) (sought (booksIn w) r) k e some ∙ admission-is w work room c r
 
   module _ (work room c : ℕ) (r : Request) (p : Passed w work room r) where
-    own-left : checked refuses (ownChecks w c) (sought (booksIn w) r) ≡ admission w work room c r
-    own-left = rest-left w work room r p (ownChecks w c) (sought (booksIn w) r) ∙ admission-is w work room c r
+    own-left : checked refuses (numberChecks (booksIn w) c) (sought (booksIn w) r) ≡ admission w work room c r
+    own-left = rest-left w work room r p (numberChecks (booksIn w) c) (sought (booksIn w) r) ∙ admission-is w work room c r
 
     pub fails-11 : numberFits (booksIn w) c ≡ false → refuses 11 ≡ admission w work room c r
     fails-11 e = rw (← own-left, e) refl

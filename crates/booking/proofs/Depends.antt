@@ -5,7 +5,7 @@ use Prim.Native.Nat.{ℕ}
 use mathlib.Core.Path.{_≡_, ap, ap₂}
 use mathlib.Core.Bool.{Bool}
 use mathlib.Core.List.{List, [], _∷_, _++_}
-use lib.Dec.{ltb, leb}
+use lib.Dec.{leb}
 use lib.ListN.{length}
 use Rattle.network.specs.declared.Request.{Request}
 use Rattle.ebf.specs.Alike.{Alike}
@@ -14,23 +14,18 @@ use Rattle.route.proofs.Result.{result-depends}
 use Rattle.area.specs.Station.{station}
 use Rattle.area.specs.Books.{Books, books, net}
 use Rattle.area.specs.Formed.{wellFormed}
-use Rattle.area.specs.Checks.{Check, _unless_, checked}
+use Rattle.area.specs.Checks.{_unless_, checked}
 use Rattle.station.proofs.Depends.{formed-depends}
-use Rattle.booking.specs.Requests.{requestFits}
 use Rattle.booking.specs.Replies.{Reply, refuses, releases}
-use Rattle.booking.specs.Calls.{booksIn, sought, numberFits, quote, admission, release}
+use Rattle.booking.specs.Calls.{booksIn, sought, requestChecks, numberChecks, quote, admission, release}
 
 -- ---- the answers, by whether the area is well formed and by its books
 module _ (work room : ℕ) (r : Request) (formed : Bool) (o : Books) where
-  abbrev firstChecks : List Check
-  firstChecks =
-      (5 unless formed) ∷ (6 unless leb 16384 work) ∷ (7 unless leb 31 room) ∷ (8 unless requestFits (o .table .nodes) r) ∷ []
-
   abbrev quoted : Reply
-  quoted = checked refuses firstChecks (sought o r)
+  quoted = checked refuses ((5 unless formed) ∷ requestChecks o work room r) (sought o r)
 
   abbrev admitted : ℕ → Reply
-  admitted c = checked refuses (firstChecks ++ (11 unless numberFits o c) ∷ (12 unless ltb (o .count) 64) ∷ []) (sought o r)
+  admitted c = checked refuses ((5 unless formed) ∷ requestChecks o work room r ++ numberChecks o c) (sought o r)
 
 abbrev freed : ℕ → Bool → Books → Reply
 freed c formed o = checked refuses ((5 unless formed) ∷ (13 unless (o .holds c)) ∷ []) releases

@@ -1,34 +1,34 @@
 -- What the code's enum says of a reply, what a granted path in the buffer is, and what a quote and an admission promise at
 -- a return: the reply that the code came to is the call's, and the call's means what the rules say.
 -- Assumes nothing.
-use Prim.Native.Nat.{ℕ, _≤_, _<_}
+use Prim.Native.Nat.{ℕ, _≤_}
 use mathlib.Core.Path.{_≡_, refl, ap, _∙_}
 use mathlib.Core.Bool.{true}
 use mathlib.Core.List.{List, [], _∷_, _++_}
-use mathlib.Core.Logic.{inl, inr, ⊎-elim}
+use mathlib.Core.Logic.{⊎-elim}
 use native.Mathlib.Nat.{zero-add}
 use types.Run.{OneOf}
 use native.Mathlib.Omega.{arith}
-use lib.ListN.{length, getD, drop, List·getD-append}
-use Rattle.network.specs.Net.{Net, Ends, IsPath}
+use lib.ListN.{length, drop, List·getD-append}
+use Rattle.network.specs.Net.{Net}
 use Rattle.network.specs.Reduce.{Outcome, no-path, no-solution, granted}
 use Rattle.network.specs.declared.Request.{Request}
-use Rattle.network.proofs.Short.{path-short}
 use Rattle.route.specs.declared.Grant.{Grant}
 use Rattle.route.specs.Answers as route
-use Rattle.area.specs.Station.{station, tableIn, wordsAt}
+use Rattle.area.specs.Station.{nodesIn, tableIn, station, wordsAt}
 use Rattle.area.specs.Books.{books}
-use Rattle.area.specs.Formed.{wellFormed}
+use Rattle.area.specs.Formed.{WellFormed, wellFormed}
 use Rattle.area.specs.Moves.{added}
 use Rattle.area.proofs.Formed.{formed-says}
 use Rattle.area.proofs.WordsAt.{words-list}
 use Rattle.booking.specs.declared.Answer.{Answer}
 use Rattle.booking.specs.declared.Answer.the-variants.{Refused, Granted}
 use Rattle.booking.specs.Replies.{Reply, refuses, grants, releases, answerOf, told, replyOf, pathAfter}
-use Rattle.booking.specs.Requests.{requestFits}
+use Rattle.booking.specs.Requests.{RequestFits, requestFits}
 use Rattle.booking.specs.Calls.{booksIn, sought, quote, admission, booked}
-use Rattle.booking.specs.Meaning.{Answered, Grant as Means, by-one, by-two, searchRules, netFor, Quoted, Admitted}
-use Rattle.booking.proofs.Meaning.{request-says, area-searchable, sought-means, quote-means, admission-means}
+use Rattle.booking.specs.Meaning.{Answered, Grant as Means, searchRules, netFor, Quoted, Admitted}
+use Rattle.booking.proofs.Meaning.{request-says, sought-means, quote-means, admission-means}
+use Rattle.booking.proofs.Bookings.{grant-path, searched, seen-short}
 
 -- the search's answer, numbered, is the reply's
 pub told-reply : (g : Net) (o : Outcome) → told (route.answerOf g o) ≡ answerOf (replyOf g o)
@@ -76,29 +76,25 @@ pub other-case : (tag : Answer → ℕ) → ((g : Grant) → tag (Granted g) ≡
     → (g : Grant) → a ≡ Granted g → ⊥
 other-case tag one a keys g e = ⊎-elim (λ z. omega (arith, ap tag e, one g)) (λ z. omega (arith, ap tag e, one g)) keys
 
--- a granted path has at most 31 links: fewer than there are nodes
-module _ (g : Net) (r : Request) (ends : Ends g) (few : g .nodes ≤ 32) (source : r .source < g .nodes) where
-  short : (p : List ℕ) → IsPath g (r .source) (r .target) p → length p ≤ 31
-  short p path = omega (arith, path-short g ends (r .source) (r .target) source p path)
-
-  links-short : (a : Reply) → Answered (Means g r) (searchRules g r) a → (h : Grant) → answerOf a ≡ Granted h → h .links ≤ 31
-  unfolding answerOf Answered
-  links-short a (inl (none, is)) h e = absurd (let z : _≡_ {A = ℕ} 0 1 = cc in omega arith)
-  links-short a (inr (some, inl (none, is))) h e = absurd (let z : _≡_ {A = ℕ} 0 1 = cc in omega arith)
-  links-short a (inr (some, inr (solved, by-one p best))) h e =
-      let many : h .links ≡ length p = cc in omega (arith, short p (best .2 .solves .path))
-  links-short a (inr (some, inr (solved, by-two p best))) h e =
-      let many : h .links ≡ length p = cc in omega (arith, short p (best .3 .solves .path))
-
-pub granted-short : (w : List ℕ) (r : Request) → wellFormed w ≡ true → requestFits (getD w 0 0) r ≡ true
+-- a granted path has at most 31 links
+pub granted-short : (w : List ℕ) (r : Request) → wellFormed w ≡ true → requestFits (nodesIn w) r ≡ true
     → (g : Grant) → answerOf (sought (booksIn w) r) ≡ Granted g
     → g .links ≤ 31
-unfolding books station tableIn
-granted-short w r formed request g =
-    let whole = formed-says w formed in
-    let fits = request-says (getD w 0 0) r request in
-    let ok = area-searchable w r whole fits in
-    links-short (netFor w r) r (ok .ends) (ok .few) (ok .source) (sought (booksIn w) r) (sought-means w r whole fits) g
+unfolding books station tableIn answerOf
+granted-short w r formed request g = go (sought (booksIn w) r) (sought-means w r whole fits)
+  where
+    whole : WellFormed w
+    whole = formed-says w formed
+
+    fits : RequestFits (nodesIn w) r
+    fits = request-says (nodesIn w) r request
+
+    go : (a : Reply) → Answered (Means (netFor w r) r) (searchRules (netFor w r) r) a → answerOf a ≡ Granted g → g .links ≤ 31
+    go (refuses n) h e = absurd (let z : _≡_ {A = ℕ} 0 1 = cc in omega arith)
+    go releases h e = absurd (let z : _≡_ {A = ℕ} 0 1 = cc in omega arith)
+    go (grants k d x p) h e =
+        let many : g .links ≡ length p = cc in
+        omega (arith, seen-short w r whole fits p (grant-path (searched (netFor w r) r k d x p h)))
 
 -- ---- a quote's return: the answer, the path buffer after and the meaning, by the reply that the code came to
 module _ (w : List ℕ) (work : ℕ) (l : List ℕ) (r : Request) where

@@ -9,7 +9,7 @@ use native.Mathlib.Omega.{arith}
 use lib.Dec.{eqb}
 use lib.ListN.{length, getD}
 use borrow.Author.Tests.{eqb-true}
-use Rattle.network.specs.Lists.{All, memb}
+use Rattle.network.specs.Lists.{All}
 use Rattle.network.specs.Net.{Net, Walk, IsPath}
 use Rattle.network.proofs.Tests.{by-bool}
 use Rattle.area.specs.Station.{Table, Circuit, headOf, station}
@@ -45,15 +45,7 @@ module _ (o : Books) (b : ℕ) where
   unfolding net whole
   whole-path s t p h = record { some = h .some; walk = whole-walk s t p (h .walk); distinct = h .distinct }
 
--- every link of a walk is usable
-pub walk-usable : (g : Net) (s t : ℕ) (p : List ℕ) → Walk g s t p → (i : ℕ) → memb i p ≡ true → g .usable i ≡ true
-walk-usable g s t [] h i e = absurd (false≢true e)
-walk-usable g s t (j ∷ p) h i e = go (eqb i j) refl e (walk-usable g (g .head j) t p (h .3) i)
-  where
-    go : (b : Bool) → eqb i j ≡ b → (b || memb i p) ≡ true → (memb i p ≡ true → g .usable i ≡ true) → g .usable i ≡ true
-    go true q e on = rw (eqb-true i j q) (h .1)
-    go false q e on = on e
-
+-- a path has a link or more
 pub some-link : {g : Net} {s t : ℕ} (p : List ℕ) → IsPath g s t p → 1 ≤ length p
 some-link [] h = absurd (h .some)
 some-link (i ∷ p) h = omega arith

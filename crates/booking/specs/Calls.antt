@@ -28,19 +28,22 @@ sought o r = replyOf (net o (r .units)) (search (net o (r .units)) r)
 unfoldable pub numberFits : Books → ℕ → Bool
 numberFits o c = inRange 1 65535 c && not (o .holds c)
 
--- the checks of a quote on an area w, with the lengths of work memory and path buffer
+-- the checks that ask for the books alone: those of a request, with the lengths of work memory and path buffer
+abbrev pub requestChecks : Books → ℕ → ℕ → Request → List Check
+requestChecks o work room r =
+    (6 unless leb 16384 work) ∷ (7 unless leb 31 room) ∷ (8 unless requestFits (o .table .nodes) r) ∷ []
+
+-- and those of a circuit number
+abbrev pub numberChecks : Books → ℕ → List Check
+numberChecks o c = (11 unless numberFits o c) ∷ (12 unless ltb (o .count) 64) ∷ []
+
+-- the checks of a quote on an area w
 abbrev pub quoteChecks : List ℕ → ℕ → ℕ → Request → List Check
-quoteChecks w work room r =
-    (5 unless wellFormed w)
-    ∷ (6 unless leb 16384 work)
-    ∷ (7 unless leb 31 room)
-    ∷ (8 unless requestFits (booksIn w .table .nodes) r)
-    ∷ []
+quoteChecks w work room r = (5 unless wellFormed w) ∷ requestChecks (booksIn w) work room r
 
 -- those of an admission with circuit number c
 abbrev pub admitChecks : List ℕ → ℕ → ℕ → ℕ → Request → List Check
-admitChecks w work room c r =
-    quoteChecks w work room r ++ (11 unless numberFits (booksIn w) c) ∷ (12 unless ltb (booksIn w .count) 64) ∷ []
+admitChecks w work room c r = quoteChecks w work room r ++ numberChecks (booksIn w) c
 
 -- those of a release of circuit number c
 abbrev pub releaseChecks : List ℕ → ℕ → List Check

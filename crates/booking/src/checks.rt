@@ -13,7 +13,8 @@ const WORK: usize = 16384;
 const PATH: usize = 31;
 
 // The first number of 5, 6, 7 and 8 that applies, or 0 where none does. `formed` says whether the area is well formed;
-// `work` and `path` are the lengths of work memory and path buffer.
+// `work` and `path` are the lengths of work memory and path buffer. Both callers have `formed` from the check of the
+// same area.
 pub fn refusal(formed: bool, area: &[u32], work: usize, path: usize, r: Request) -> u32
     requires { ⌜ formed ≡ wellFormed (now area) ⌝ }
     ensures { λ k. ⌜ k ≡ firstFailing (quoteChecks (now (area .entry)) work path r) ⌝ }

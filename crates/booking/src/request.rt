@@ -35,7 +35,7 @@ pub fn request_fits(n: u32, r: Request) -> bool
     in_range(1, 8, r.coefficient)
 }
 
-// Whether an admission may take this circuit number: it is in its range and not held.
+// Whether an admission may take this circuit number: it is in its range and not held. The area has passed its check.
 pub fn number_fits(area: &[u32], number: u32) -> bool
     requires { ⌜ wellFormed (now area) ≡ true ⌝ }
     ensures { λ ok. ⌜ ok ≡ numberFits (booksIn (now (area .entry))) number ⌝ }

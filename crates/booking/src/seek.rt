@@ -20,7 +20,8 @@ fn numbered(found: route::Answer) -> Answer
     }
 }
 
-// Searches for a path for `r` on a well-formed area whose links have these free units.
+// Searches for a path for `r` on a well-formed area whose links have these free units. Both callers come here past
+// their checks, with the free units that the check of the area gave.
 pub fn seek(
     area: &[u32],
     free: &[u32; 256],

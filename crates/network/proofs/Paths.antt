@@ -3,7 +3,7 @@
 use mathlib.Core.Path.{_≡_, refl}
 use mathlib.Core.Bool.{Bool, true, false, _||_, and-eq-true-iff, false≢true, true≢false}
 use mathlib.Core.List.{List, [], _∷_}
-use Prim.Native.Nat.{ℕ}
+use Prim.Native.Nat.{ℕ, _<_}
 use lib.Dec.{eqb}
 use borrow.Author.Tests.{ltb-true, eqb-true, eqb-false, lt-ltb, eq-eqb, ne-eqb, not-true}
 use Rattle.network.specs.Lists.{All, memb, distinctb, Distinct}
@@ -43,6 +43,16 @@ walk-of g s t (i ∷ p) e =
 pub walk-test : (g : Net) (s t : ℕ) (p : List ℕ) → Walk g s t p → walkb g s t p ≡ true
 walk-test g s t [] h = eq-eqb s t h
 walk-test g s t (i ∷ p) h = simp (lt-ltb i (g .links) (h .0), h .1, eq-eqb (g .tail i) s (h .2), walk-test g (g .head i) t p (h .3))
+
+-- every link of a walk is one of the network, and usable
+pub walk-links : (g : Net) (s t : ℕ) (p : List ℕ) → Walk g s t p → (i : ℕ) → memb i p ≡ true → (i < g .links) × (g .usable i ≡ true)
+walk-links g s t [] h i e = absurd (false≢true e)
+walk-links g s t (j ∷ p) h i e = go (eqb i j) refl e (walk-links g (g .head j) t p (h .3) i)
+  where
+    go : (b : Bool) → eqb i j ≡ b → (b || memb i p) ≡ true → (memb i p ≡ true → (i < g .links) × (g .usable i ≡ true))
+        → (i < g .links) × (g .usable i ≡ true)
+    go true q e on = rw (eqb-true i j q) (h .0, h .1)
+    go false q e on = on e
 
 pub path-of : (g : Net) (s t : ℕ) (p : List ℕ) → isPathb g s t p ≡ true → IsPath g s t p
 path-of g s t [] e = absurd (false≢true e)

@@ -32,7 +32,8 @@ pub fn word(links: &[u32], i: usize, j: usize) -> u32
     links[5 * i + j]
 }
 
-// Word `j` of every link; no link stands past the table's end, and there the column holds 0.
+// Word `j` of every link; no link stands past the table's end, and there the column holds 0. The callers have checked
+// the table's length.
 pub fn column(links: &[u32], m: usize, j: usize) -> [u32; 256]
     requires { ⌜ m ≤ 256 ⌝ }
     requires { ⌜ j < 5 ⌝ }
