@@ -9,3 +9,4 @@ pub mod FreeUnits
 pub mod Keeps
 pub mod Order
 pub mod Stores
+pub mod Checks

@@ -21,6 +21,7 @@ use Rattle.area.specs.Books.{holds, free, books, net}
 use Rattle.area.specs.Held.{foundAt}
 use Rattle.area.specs.Formed.{CircuitFits, Sound, WellFormed, wellFormed}
 use Rattle.area.specs.Moves.{withCircuit, withoutNumber, Untouched}
+use Rattle.area.proofs.Checks.{all-pass}
 use Rattle.area.proofs.Formed.{formed-says}
 use Rattle.area.proofs.Found.{holds-found}
 use Rattle.area.proofs.Added.{added-long, added-untouched, added-station}
@@ -30,8 +31,9 @@ use Rattle.area.proofs.Keeps.{sound-added, sound-removed, without-one, without-
 use Rattle.booking.specs.Requests.{RequestFits, requestFits}
 use Rattle.booking.specs.Replies.{Reply, refuses, grants, releases}
 use Rattle.booking.specs.Calls.{booksIn, sought, numberFits, admitChecks, admission, booked, releaseChecks, release, cleared}
-use Rattle.booking.specs.Meaning.{Answered, Grant, by-one, by-two, searchRules, NumberFits, netFor}
-use Rattle.booking.proofs.Passed.{all-pass, granted-not-refused, released-not-refused, whole-path, some-link, count-is, held-number}
+use Rattle.booking.specs.Rules.{Answered, Grant, by-one, by-two, searchRules, NumberFits}
+use Rattle.booking.specs.Meaning.{netFor}
+use Rattle.booking.proofs.Passed.{granted-not-refused, released-not-refused, whole-path, some-link, count-is, held-number}
 use Rattle.booking.proofs.Meaning.{request-says, number-says, area-searchable, sought-means}
 
 -- a granted path is a usable path
@@ -72,7 +74,7 @@ module _ (w : List ℕ) (work room c : ℕ) (r : Request) (k d x : ℕ) (p : Lis
   pub admission-granted : Accepted w c r k d x p
   unfolding admission
   admission-granted =
-      let h = all-pass (admitChecks w work room c r) (sought (booksIn w) r) (grants k d x p) (granted-not-refused k d x p) e in
+      let h = all-pass refuses (admitChecks w work room c r) (sought (booksIn w) r) (grants k d x p) (granted-not-refused k d x p) e in
       let e6 = snd-of (wellFormed w) _ (h .0) in
       let e7 = snd-of (leb 16384 work) _ e6 in
       let e8 = snd-of (leb 31 room) _ e7 in
@@ -173,7 +175,7 @@ module _ (w : List ℕ) (c : ℕ) (e : release w c ≡ releases) where
   passed : WellFormed w × (holds (station w .held) c ≡ true)
   unfolding release books
   passed =
-      let h = all-pass (releaseChecks w c) releases releases released-not-refused e .0 in
+      let h = all-pass refuses (releaseChecks w c) releases releases released-not-refused e .0 in
       (formed-says w (fst-of (wellFormed w) _ h), fst-of (holds (station w .held) c) _ (snd-of (wellFormed w) _ h))
 
   -- the station after is without the number, and has no other change

@@ -26,7 +26,8 @@ use Rattle.booking.specs.declared.Answer.the-variants.{Refused, Granted}
 use Rattle.booking.specs.Replies.{Reply, refuses, grants, releases, answerOf, told, replyOf, pathAfter}
 use Rattle.booking.specs.Requests.{RequestFits, requestFits}
 use Rattle.booking.specs.Calls.{booksIn, sought, quote, admission, booked}
-use Rattle.booking.specs.Meaning.{Answered, Grant as Means, searchRules, netFor, Quoted, Admitted}
+use Rattle.booking.specs.Rules.{Answered, Grant as Means, searchRules}
+use Rattle.booking.specs.Meaning.{netFor, Quoted, Admitted}
 use Rattle.booking.proofs.Meaning.{request-says, sought-means, quote-means, admission-means}
 use Rattle.booking.proofs.Bookings.{grant-path, searched, seen-short}
 

@@ -22,7 +22,8 @@ use Rattle.area.proofs.Formed.{both, range-says, range-test, formed-says, forme
 use Rattle.booking.specs.Requests.{RequestFits, requestFits}
 use Rattle.booking.specs.Replies.{Reply, refuses, replyOf}
 use Rattle.booking.specs.Calls.{booksIn, sought, numberFits, quote, admission, release}
-use Rattle.booking.specs.Meaning.{Rule, _when_, Answered, Grant, by-one, by-two, searchRules, NumberFits, netFor, Quoted, Admitted, Cleared}
+use Rattle.booking.specs.Rules.{Rule, _when_, Answered, Grant, by-one, by-two, searchRules, NumberFits}
+use Rattle.booking.specs.Meaning.{netFor, Quoted, Admitted, Cleared}
 
 -- ---- a request's ranges, and a circuit number's: the test says what the statement says
 module _ (n : ℕ) (r : Request) where

@@ -1,4 +1,4 @@
--- Before a grant: a reply that is no refusal comes past every check, a granted path is a path of the table with usable
+-- Before a grant: which replies are no refusals, a granted path is a path of the table with usable
 -- links, and what a well-formed area's words say. Each law goes by the next check, link or circuit.
 -- Assumes nothing.
 use Prim.Native.Nat.{ℕ, _≤_}
@@ -11,22 +11,14 @@ use lib.ListN.{length, getD}
 use borrow.Author.Tests.{eqb-true}
 use Rattle.network.specs.Lists.{All}
 use Rattle.network.specs.Net.{Net, Walk, IsPath}
-use Rattle.network.proofs.Tests.{by-bool}
 use Rattle.area.specs.Station.{Table, Circuit, headOf, station}
 use Rattle.area.specs.Books.{Books, holds, books, net, whole}
 use Rattle.area.specs.Formed.{CircuitFits}
-use Rattle.area.specs.Checks.{Check, checked, pass}
 use Rattle.area.proofs.Found.{held-length}
 use Rattle.booking.specs.Replies.{Reply, refuses, grants, releases}
 use Rattle.booking.specs.Calls.{booksIn}
 
--- ---- replies and checks
--- a reply that is no refusal comes past every check
-pub all-pass : (cs : List Check) (a b : Reply) → ((k : ℕ) → refuses k ≡ b → ⊥) → checked refuses cs a ≡ b → (pass cs ≡ true) × (a ≡ b)
-all-pass [] a b other e = (refl, e)
-all-pass (c ∷ cs) a b other e =
-    by-bool (c .passes) (λ q. rw q (all-pass cs a b other (rw q at e))) (λ q. absurd (other (c .number) (rw q at e)))
-
+-- ---- replies
 pub granted-not-refused : (k d x : ℕ) (p : List ℕ) (n : ℕ) → refuses n ≡ grants k d x p → ⊥
 granted-not-refused k d x p n e = let z : _≡_ {A = ℕ} 0 1 = cc in omega arith
 

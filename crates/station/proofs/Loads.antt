@@ -1,7 +1,7 @@
 -- An accepted load: the area holds the table that was given and no circuit, it is well formed, and every word past the
 -- links keeps its contents.
 -- Assumes nothing.
-use mathlib.Core.Path.{_≡_, sym, ap, _∙_, subst}
+use mathlib.Core.Path.{_≡_, refl, sym, ap, _∙_, subst}
 use mathlib.Core.Bool.{true, _&&_}
 use mathlib.Core.List.{List, [], _∷_, _++_}
 use Prim.Native.Nat.{ℕ, _+_, _*_, _-_, _/_, _%_, _≤_}
@@ -14,7 +14,9 @@ use Rattle.network.proofs.Tests.{fst-of, snd-of}
 use Rattle.area.specs.Station.{wordsAt, station, tableIn}
 use Rattle.area.specs.Formed.{Sound, WellFormed, inRange, linksFit}
 use Rattle.area.specs.Checks.{pass}
-use Rattle.station.specs.Load.{tableOf, fresh, loadChecks, loaded}
+use Rattle.station.specs.declared.Loading.the-variants.{Refused, Loaded}
+use Rattle.station.specs.Load.{tableOf, fresh, loadChecks, loadAnswer, loaded, areaLoaded}
+use Rattle.area.proofs.Checks.{all-pass}
 use Rattle.area.proofs.Formed.{range-says, links-says}
 use Rattle.area.proofs.WordsAt.{words-list}
 
@@ -97,3 +99,21 @@ module _ (w : List ℕ) (n : ℕ) (links : List ℕ) where
           long = omega (arith, loaded-long (omega (arith, few, long)), long);
           sound = subst Sound (sym loaded-station) fresh-sound;
         }
+
+  -- ---- by Load's answer, and the area that it leaves
+  accepted-passes : loadAnswer w n links ≡ Loaded → pass (loadChecks w n links) ≡ true
+  unfolding loadAnswer
+  accepted-passes e = all-pass Refused (loadChecks w n links) Loaded Loaded (λ k f. refusal k f) e .0
+    where
+      refusal : (k : ℕ) → Refused k ≡ Loaded → ⊥
+      refusal k f = let z : _≡_ {A = ℕ} 0 1 = cc in omega arith
+
+  accepted-loaded : loadAnswer w n links ≡ Loaded → areaLoaded w n links ≡ loaded w n links
+  unfolding areaLoaded
+  accepted-loaded e = rw (accepted-passes e) refl
+
+  pub accepted-station : loadAnswer w n links ≡ Loaded → station (areaLoaded w n links) ≡ fresh n links
+  accepted-station e = ap station (accepted-loaded e) ∙ loaded-station (accepted-passes e)
+
+  pub accepted-formed : loadAnswer w n links ≡ Loaded → WellFormed (areaLoaded w n links)
+  accepted-formed e = subst WellFormed (sym (accepted-loaded e)) (loaded-formed (accepted-passes e))

@@ -1,0 +1,79 @@
+-- The third demand, and beside it the second: for every n, link words and area that Load accepts, and every list of
+-- admissions, releases and quotes, refused ones included, with work memory and path buffer of any length and contents at
+-- each call. specs/Demand.antt says what is claimed.
+-- Assumes nothing.
+use Prim.Native.Nat.{ℕ}
+use mathlib.Core.Path.{_≡_}
+use mathlib.Core.List.{List}
+use Rattle.network.specs.declared.Request.{Request}
+use Rattle.area.specs.Station.{station}
+use Rattle.area.specs.Formed.{WellFormed}
+use Rattle.area.specs.Order.{Agrees}
+use Rattle.area.proofs.Order.{agrees-eq, agrees-next, agrees-sym}
+use Rattle.station.specs.declared.Loading.the-variants.{Loaded}
+use Rattle.station.specs.Load.{loadAnswer, areaLoaded}
+use Rattle.station.proofs.Loads.{accepted-station, accepted-formed}
+use Rattle.booking.specs.Replies.{Reply, grants}
+use Rattle.booking.specs.Calls.{quote, admission}
+use Rattle.booking.specs.Meaning.{netFor}
+use Rattle.booking.proofs.Meaning.{quote-means, admission-means}
+use Rattle.ledger.specs.Ledger.{Call, Ledger, opened}
+use Rattle.ledger.specs.History.{Lending, history, Struck}
+use Rattle.ledger.specs.Demand.{AtEvery, PathsGranted, Throughout, ThirdDemand, SecondDemand}
+use Rattle.ledger.proofs.Steps.{Says}
+use Rattle.ledger.proofs.Places.{refused-as, not-five, answered, exactly-refused, enough-granted, paths-granted, paths-past-five}
+use Rattle.ledger.proofs.Histories.{followed, ends-agree, at-every, Twins, struck-answers, struck-ends}
+
+module _ (n : ℕ) (links : List ℕ) where
+  -- ---- an accepted load: the ledger opens in agreement with the area, and so are any two areas
+  module _ (w : List ℕ) (accepted : loadAnswer w n links ≡ Loaded) where
+    opens : Agrees (station (areaLoaded w n links)) (opened n links)
+    opens = agrees-eq (accepted-station w n links accepted)
+
+    formed : WellFormed (areaLoaded w n links)
+    formed = accepted-formed w n links accepted
+
+    said : (cs : List Lending) → Throughout w n links cs Says
+    said cs = followed (areaLoaded w n links) (opened n links) formed opens cs
+
+    -- what follows from the ledger's word at one place holds throughout
+    throughout : (P : Ledger → Call ℕ → Reply → Type 0) → ((l : Ledger) (q : Call ℕ) (a : Reply) → Says l q a → P l q a)
+        → (cs : List Lending)
+        → Throughout w n links cs P
+    throughout P one cs = at-every P one (opened n links) (history (areaLoaded w n links) cs) (said cs)
+
+  twins : (w v : List ℕ) → loadAnswer w n links ≡ Loaded → loadAnswer v n links ≡ Loaded → Twins (areaLoaded w n links) (areaLoaded v n links)
+  twins w v accepted accepted' =
+      record {
+        first = formed w accepted;
+        second = formed v accepted';
+        agrees = agrees-next (opens w accepted) (agrees-sym (opens v accepted'));
+      }
+
+  -- ---- the demands
+  module _ (w : List ℕ) (accepted : loadAnswer w n links ≡ Loaded) (cs : List Lending) where
+    pub third-demand : ThirdDemand w n links cs
+    third-demand =
+        record {
+          refusals = throughout w accepted _ refused-as cs;
+          no-five = throughout w accepted _ not-five cs;
+          exactly = throughout w accepted _ exactly-refused cs;
+          granted = throughout w accepted _ answered cs;
+          books = ends-agree (areaLoaded w n links) (opened n links) (formed w accepted) (opens w accepted) cs .held;
+          enough = throughout w accepted _ enough-granted cs;
+          struck = λ v accepted' ds s. (
+            struck-answers (areaLoaded w n links) (areaLoaded v n links) (twins w v accepted accepted') s,
+            struck-ends (areaLoaded w n links) (areaLoaded v n links) (twins w v accepted accepted') s .held,
+          );
+        }
+
+    pub second-demand : SecondDemand w n links cs
+    second-demand = throughout w accepted _ paths-granted cs
+
+-- ---- the second demand on any words at all, loaded or not
+module _ (w : List ℕ) (work room : ℕ) (r : Request) where
+  pub any-quote : PathsGranted (netFor w r) r (quote w work room r)
+  any-quote = paths-past-five w work room r _ _ (quote-means w work room r)
+
+  pub any-admission : (c : ℕ) → PathsGranted (netFor w r) r (admission w work room c r)
+  any-admission c = paths-past-five w work room r _ _ (admission-means w work room c r)

@@ -1,0 +1,111 @@
+-- One call on a well-formed area: its reply is what the ledger's rules say of the area's circuits, the circuits move as
+-- the ledger's entries do, and the area stays well formed. The reply goes by the books and the lengths alone.
+-- Assumes nothing.
+use Prim.Native.Nat.{ℕ}
+use mathlib.Core.Path.{_≡_, refl, sym, ap, _∙_}
+use mathlib.Core.Bool.{true, false}
+use mathlib.Core.List.{List, [], _∷_}
+use mathlib.Core.Logic.{inl, inr}
+use mathlib.Core.Option.{Option, none, some}
+use native.Mathlib.Omega.{arith}
+use lib.ListN.{length}
+use Rattle.network.specs.declared.Request.{Request}
+use Rattle.area.specs.Station.{Circuit, Station, station}
+use Rattle.area.specs.Books.{Books, books, holds}
+use Rattle.area.specs.Formed.{WellFormed, wellFormed}
+use Rattle.area.specs.Moves.{withoutNumber}
+use Rattle.area.specs.Order.{Agrees, skip}
+use Rattle.area.proofs.Formed.{formed-test}
+use Rattle.area.proofs.Keeps.{without-none}
+use Rattle.area.proofs.Order.{agrees-refl, agrees-eq, books-agree, without-same}
+use Rattle.booking.specs.Replies.{Reply, refuses, grants, releases}
+use Rattle.booking.specs.Calls.{quote, admission, booked, release, cleared, booksIn}
+use Rattle.booking.specs.Rules.{Rule, _when_, Answered, releaseRules}
+use Rattle.booking.specs.Meaning.{Cleared}
+use Rattle.booking.proofs.Passed.{released-not-refused}
+use Rattle.booking.proofs.Meaning.{quote-means, admission-means, release-means}
+use Rattle.booking.proofs.Bookings.{admitted-station, admitted-formed, released-station, released-formed}
+use Rattle.booking.proofs.Depends.{quote-depends, admission-depends, release-depends}
+use Rattle.ledger.specs.Ledger.{Call, quoting, admitting, releasing, told, Ledger, rules, Grants, moved}
+use Rattle.ledger.specs.History.{Lending, measured, replyTo, areaAfter}
+
+-- the reply is what the ledger says
+abbrev pub Says : Ledger → Call ℕ → Reply → Type 0
+Says l q a = Answered (Grants l q) (rules l q) a
+
+module _ (w : List ℕ) (formed : WellFormed w) where
+  -- 5 is not given
+  past-five : (G : Reply → Type 0) (rs : List Rule) (a : Reply) → Answered G ((5 when (WellFormed w → ⊥)) ∷ rs) a → Answered G rs a
+  unfolding Answered
+  past-five G rs a (inl (lacks, e)) = absurd (lacks formed)
+  past-five G rs a (inr (_, h)) = h
+
+  pub says : (c : Lending) → Says (station w) (measured c) (replyTo w c)
+  says (quoting work room r) = past-five _ _ _ (quote-means w (length work) (length room) r)
+  says (admitting work room c r) = past-five _ _ _ (admission-means w (length work) (length room) c r)
+  says (releasing c) = past-five _ _ _ (release-means w c)
+
+  -- the circuits after an admission, by its reply
+  admits : (work room c : ℕ) (r : Request) (a : Reply) → admission w work room c r ≡ a
+      → Agrees (station (booked w c (r .units) a)) (moved (station w) (admitting work room c r) (told (admitting work room c r) a))
+  unfolding booked
+  admits work room c r (refuses k) e = agrees-refl (station w)
+  admits work room c r (grants k d x p) e = agrees-eq (admitted-station w work room c r k d x p e)
+  admits work room c r releases e = agrees-refl (station w)
+
+  -- where a number is not held, no circuit is taken out
+  unheld : (c : ℕ) → holds (station w .held) c ≡ false → Agrees (station w) (withoutNumber (station w) c)
+  unheld c e =
+      agrees-eq (ap (λ (l : List Circuit). record { table = station w .table; held = l }) (sym (without-none c (station w .held) e)))
+
+  -- the circuits after a release, by its reply
+  frees : (c : ℕ) (a : Reply) → release w c ≡ a → Says (station w) (releasing c) a → Agrees (station (cleared w c a)) (withoutNumber (station w) c)
+  unfolding cleared Answered books
+  frees c (refuses k) e (inl (lacks, _)) = unheld c lacks
+  frees c (refuses k) e (inr (_, f)) = absurd (released-not-refused k f)
+  frees c (grants k d x p) e (inl (lacks, _)) = unheld c lacks
+  frees c (grants k d x p) e (inr (_, f)) = absurd (let z : _≡_ {A = ℕ} 0 1 = cc in omega arith)
+  frees c releases e h = agrees-eq (released-station w c e)
+
+  pub moves : (c : Lending) → Agrees (station (areaAfter w c)) (moved (station w) (measured c) (told (measured c) (replyTo w c)))
+  moves (quoting work room r) = agrees-refl (station w)
+  moves (admitting work room c r) = admits (length work) (length room) c r (admission w (length work) (length room) c r) refl
+  moves (releasing c) = frees c (release w c) refl (says (releasing c))
+
+  pub keeps : (c : Lending) → WellFormed (areaAfter w c)
+  keeps (quoting work room r) = formed
+  keeps (admitting work room c r) = admitted-formed w (length work) (length room) c r formed
+  keeps (releasing c) = released-formed w c formed
+
+-- ---- what a reply goes by
+-- its numbers, the lengths of what it is lent, and the books
+abbrev replyBy : List ℕ → Call ℕ → Reply
+replyBy w (quoting work room r) = quote w work room r
+replyBy w (admitting work room c r) = admission w work room c r
+replyBy w (releasing c) = release w c
+
+reply-measured : (w : List ℕ) (c : Lending) → replyTo w c ≡ replyBy w (measured c)
+reply-measured w (quoting work room r) = refl
+reply-measured w (admitting work room c r) = refl
+reply-measured w (releasing c) = refl
+
+reply-depends : (w w' : List ℕ) (q : Call ℕ) → wellFormed w ≡ wellFormed w' → booksIn w ≡ booksIn w' → replyBy w q ≡ replyBy w' q
+reply-depends w w' (quoting work room r) formed same = quote-depends w w' work room r formed same
+reply-depends w w' (admitting work room c r) formed same = admission-depends w w' work room c r formed same
+reply-depends w w' (releasing c) formed same = release-depends w w' c formed same
+
+-- two well-formed areas with the same circuits answer calls with the same numbers and lengths alike
+pub replies-alike : (w w' : List ℕ) → WellFormed w → WellFormed w' → Agrees (station w) (station w') → (c d : Lending) → measured c ≡ measured d
+    → replyTo w c ≡ replyTo w' d
+replies-alike w w' formed formed' agrees c d same =
+    reply-measured w c
+    ∙ ap (replyBy w) same
+    ∙ reply-depends w w' (measured d) (formed-test w formed ∙ sym (formed-test w' formed')) (books-agree agrees)
+    ∙ sym (reply-measured w' d)
+
+-- ledgers that agree move alike
+pub moved-agree : (q : Call ℕ) (path : Option (List ℕ)) (l m : Ledger) → Agrees l m → Agrees (moved l q path) (moved m q path)
+moved-agree (quoting work room r) path l m h = h
+moved-agree (admitting work room c r) none l m h = h
+moved-agree (admitting work room c r) (some p) l m h = record { table = h .table; held = skip (h .held) }
+moved-agree (releasing c) path l m h = record { table = h .table; held = without-same c (h .held) }

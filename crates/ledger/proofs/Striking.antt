@@ -1,0 +1,25 @@
+-- Any quotes of a list may be struck: whichever are chosen, the rest is the list with quotes struck.
+-- Assumes nothing.
+use Prim.Native.Nat.{ℕ}
+use mathlib.Core.Path.{refl}
+use mathlib.Core.Bool.{Bool, true, false}
+use mathlib.Core.List.{List, [], _∷_}
+use Rattle.ledger.specs.Ledger.{quoting, admitting, releasing}
+use Rattle.ledger.specs.History.{Lending, Struck, end, strike, keep}
+
+-- the calls of a list without the quotes that were chosen, one choice for each call; past the choices all remain
+abbrev chosen : List Bool → List Lending → List Lending
+chosen choices [] = []
+chosen [] (c ∷ cs) = c ∷ chosen [] cs
+chosen (true ∷ choices) (quoting work room r ∷ cs) = chosen choices cs
+chosen (false ∷ choices) (quoting work room r ∷ cs) = quoting work room r ∷ chosen choices cs
+chosen (b ∷ choices) (admitting work room c r ∷ cs) = admitting work room c r ∷ chosen choices cs
+chosen (b ∷ choices) (releasing c ∷ cs) = releasing c ∷ chosen choices cs
+
+pub any-quotes : (choices : List Bool) (cs : List Lending) → Struck cs (chosen choices cs)
+any-quotes choices [] = end
+any-quotes [] (c ∷ cs) = keep refl (any-quotes [] cs)
+any-quotes (true ∷ choices) (quoting work room r ∷ cs) = strike (any-quotes choices cs)
+any-quotes (false ∷ choices) (quoting work room r ∷ cs) = keep refl (any-quotes choices cs)
+any-quotes (b ∷ choices) (admitting work room c r ∷ cs) = keep refl (any-quotes choices cs)
+any-quotes (b ∷ choices) (releasing c ∷ cs) = keep refl (any-quotes choices cs)

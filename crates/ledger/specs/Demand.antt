@@ -1,0 +1,108 @@
+-- The third demand, and beside it the second, as claims about a whole list of calls from a freshly loaded area.
+-- Assumes nothing.
+use Prim.Native.Nat.{ℕ}
+use mathlib.Core.Path.{_≡_}
+use mathlib.Core.List.{List, [], _∷_}
+use mathlib.Core.Logic.{_⊎_, _↔_}
+use Rattle.network.specs.Lists.{Distinct}
+use Rattle.network.specs.Net.{Net, Walk, IsPath, nodesOf, sum}
+use Rattle.network.specs.Problem.{Solves, Distance}
+use Rattle.network.specs.Reduce.{one, two, WithinBounds, Enough}
+use Rattle.network.specs.declared.Request.{Request}
+use Rattle.route.specs.Result.{GrantedByOne, GrantedByTwo}
+use Rattle.area.specs.Order.{Same}
+use Rattle.station.specs.declared.Loading.the-variants.{Loaded}
+use Rattle.station.specs.Load.{loadAnswer, areaLoaded}
+use Rattle.booking.specs.Replies.{Reply, refuses, grants}
+use Rattle.booking.specs.Rules.{Rule}
+use Rattle.ledger.specs.Ledger.{Call, quoting, admitting, releasing, told, Ledger, opened, seen, checks, Refuses, Grants, moved}
+use Rattle.ledger.specs.History.{Lending, Event, history, answers, areaAtEnd, bookings, atEnd, Struck, remaining}
+
+-- ---- words
+abbrev pub IsRefused : Reply → Type 0
+IsRefused a = (k : ℕ) × (a ≡ refuses k)
+
+abbrev pub IsGranted : Reply → Type 0
+IsGranted a = (k : ℕ) × (d : ℕ) × (x : ℕ) × (p : List ℕ) × (a ≡ grants k d x p)
+
+-- no rule of the list applies
+abbrev pub Passes : List Rule → Type 0
+Passes [] = Unit
+Passes (r ∷ rs) = (r .applies → ⊥) × Passes rs
+
+module _ (g : Net) (r : Request) where
+  -- k is the distance of the request's nodes, so that x is the coefficient times k
+  abbrev pub Far : ℕ → Type 0
+  Far k = Distance g (r .source) (r .target) k
+
+  -- a usable path solves one of the two reduced problems
+  abbrev pub Solvable : Type 0
+  Solvable =
+      (k : ℕ) × Far k
+      × ((p : List ℕ) × (Solves g (one g r k) (r .source) (r .target) p ⊎ Solves g (two g r k) (r .source) (r .target) p))
+
+  -- a usable path is overqualified in either way: by the paper's condition one or its condition two
+  abbrev pub Overqualifies : Type 0
+  Overqualifies = (k : ℕ) × Far k × ((p : List ℕ) × IsPath g (r .source) (r .target) p × Enough g r k p)
+
+-- P holds at every place of a list: of the ledger as it stands there, the call and its answer
+abbrev pub AtEvery : (Ledger → Call ℕ → Reply → Type 0) → Ledger → List Event → Type 0
+AtEvery P l [] = Unit
+AtEvery P l (e ∷ es) = P l (e .call) (e .reply) × AtEvery P (moved l (e .call) (told (e .call) (e .reply))) es
+
+-- P holds where a call is a quote or an admission: of the network that its request sees, the request and the answer
+abbrev pub Searching : (Net → Request → Reply → Type 0) → Ledger → Call ℕ → Reply → Type 0
+Searching P l (quoting work room r) a = P (seen l r) r a
+Searching P l (admitting work room c r) a = P (seen l r) r a
+Searching P l (releasing c) a = Unit
+
+-- ---- the demands
+-- what the second demand says of a path p that problem k granted a request, answered with the totals d and x
+pub record GrantedPath (g : Net) (r : Request) (k d x : ℕ) (p : List ℕ) : Type 0 where
+  -- it runs from source to destination, by usable links that follow one another
+  pub runs : Walk g (r .source) (r .target) p
+  -- it passes no node twice
+  pub once : Distinct (nodesOf g (r .source) p)
+  -- it meets both original bounds
+  pub bounds : WithinBounds g r p
+  -- it has the least kept weight among all solutions of the problem that granted it; two grants only where one has none
+  pub least : ((k ≡ 1) × GrantedByOne g r p) ⊎ ((k ≡ 2) × GrantedByTwo g r p)
+  -- its totals are its links' sums
+  pub delay : d ≡ sum (g .delay) p
+  pub cost : x ≡ sum (g .cost) p
+
+-- and of an answer: every path that it grants is such a path
+abbrev pub PathsGranted : Net → Request → Reply → Type 0
+PathsGranted g r a = (k d x : ℕ) (p : List ℕ) → a ≡ grants k d x p → GrantedPath g r k d x p
+
+-- From the area that Load leaves of w, with n and the links, the calls cs run one after another.
+module _ (w : List ℕ) (n : ℕ) (links : List ℕ) (cs : List Lending) where
+  abbrev start : List ℕ
+  start = areaLoaded w n links
+
+  -- P holds at every place of the list, where the ledger opens with the same numbers
+  abbrev pub Throughout : (Ledger → Call ℕ → Reply → Type 0) → Type 0
+  Throughout P = AtEvery P (opened n links) (history start cs)
+
+  pub record ThirdDemand : Type 0 where
+    -- "refusals are exactly document 01's ledger's": refused with k just where k is the first number that applies
+    pub refusals : Throughout (λ l q a. (k : ℕ) → (a ≡ refuses k) ↔ Refuses l q k)
+    -- and 5 never occurs
+    pub no-five : Throughout (λ l q a. a ≡ refuses 5 → ⊥)
+    -- past the checks a request is refused exactly when no usable path solves either reduced problem
+    pub exactly : Throughout (λ l q a. Passes (checks l q) → Searching (λ g r b. IsRefused b ↔ (Solvable g r → ⊥)) l q a)
+    -- "grants answer as the ledger says": a best path of its problem, with its own sums
+    pub granted : Throughout (λ l q a. (IsRefused a → ⊥) → Grants l q a)
+    -- "and book as the ledger says": after the list, and so after every call, the bookings are exactly the entries
+    pub books : Same (bookings (areaAtEnd start cs)) (atEnd (opened n links) (history start cs) .held)
+    -- "overqualified paths are always enough"
+    pub enough : Throughout (λ l q a. Passes (checks l q) → Searching (λ g r b. Overqualifies g r → IsGranted b) l q a)
+    -- "striking the quotes changes no other answer nor the final bookings", from any area v loaded with the same numbers
+    -- and whatever words the calls are lent
+    pub struck : (v : List ℕ) → loadAnswer v n links ≡ Loaded → (ds : List Lending) (s : Struck cs ds)
+        → (answers (areaLoaded v n links) ds ≡ remaining s (answers start cs))
+        × Same (bookings (areaAtEnd (areaLoaded v n links) ds)) (bookings (areaAtEnd start cs))
+
+  -- every path granted at any place of the list
+  abbrev pub SecondDemand : Type 0
+  SecondDemand = Throughout (Searching PathsGranted)

@@ -1,0 +1,105 @@
+-- A history: a list of calls, where each gets the area that the one before left. It is made of the very definitions that
+-- the contracts of quote, admit and release cite. And what it is to strike quotes from one.
+-- Assumes nothing.
+use Prim.Native.Nat.{ℕ}
+use mathlib.Core.Path.{_≡_}
+use mathlib.Core.List.{List, [], _∷_}
+use lib.ListN.{length, take}
+use Rattle.network.specs.declared.Request.{Request}
+use Rattle.area.specs.Station.{Circuit, station}
+use Rattle.booking.specs.declared.Answer.{Answer}
+use Rattle.booking.specs.declared.Answer.the-variants.{Refused, Granted, Released}
+use Rattle.booking.specs.Replies.{Reply, answerOf, pathAfter}
+use Rattle.booking.specs.Calls.{quote, admission, booked, release, cleared}
+use Rattle.ledger.specs.Ledger.{Call, quoting, admitting, releasing, told, Ledger, moved}
+
+-- a call with the words that it is lent, as they stand before it
+abbrev pub Lending : Type 0
+Lending = Call (List ℕ)
+
+-- its numbers, and the lengths of what it is lent
+abbrev pub measured : Lending → Call ℕ
+measured (quoting work room r) = quoting (length work) (length room) r
+measured (admitting work room c r) = admitting (length work) (length room) c r
+measured (releasing c) = releasing c
+
+-- ---- one call on an area
+-- the reply that the contract of its call gives
+abbrev pub replyTo : List ℕ → Lending → Reply
+replyTo w (quoting work room r) = quote w (length work) (length room) r
+replyTo w (admitting work room c r) = admission w (length work) (length room) c r
+replyTo w (releasing c) = release w c
+
+-- the area after; a quote is lent it unchangeable
+abbrev pub areaAfter : List ℕ → Lending → List ℕ
+areaAfter w (quoting work room r) = w
+areaAfter w (admitting work room c r) = booked w c (r .units) (admission w (length work) (length room) c r)
+areaAfter w (releasing c) = cleared w c (release w c)
+
+-- ---- what it gives
+-- the path buffer that it is lent; a release is lent none
+abbrev pub buffer : Lending → List ℕ
+buffer (quoting work room r) = room
+buffer (admitting work room c r) = room
+buffer (releasing c) = []
+
+-- how many links the code's answer counts
+abbrev pub linksOf : Answer → ℕ
+linksOf (Refused k) = 0
+linksOf (Granted g) = g .links
+linksOf Released = 0
+
+-- document 01's answer: the numbers, and the l words that a grant writes in the path buffer
+pub record Given : Type 0 where
+  pub numbers : Answer
+  pub words : List ℕ
+
+-- of a call that is lent the path buffer `room` and has the reply a: the code's answer and the first l words of the
+-- path buffer after, both as the contracts say
+unfoldable pub given : List ℕ → Reply → Given
+unfolding answerOf pathAfter
+given room a = record { numbers = answerOf a; words = take (linksOf (answerOf a)) (pathAfter a room) }
+
+-- ---- a list of calls
+pub record Event : Type 0 where
+  pub call : Call ℕ
+  pub reply : Reply
+
+-- each call with its reply
+abbrev pub history : List ℕ → List Lending → List Event
+history w [] = []
+history w (c ∷ cs) = record { call = measured c; reply = replyTo w c } ∷ history (areaAfter w c) cs
+
+-- the answers, one for each call
+abbrev pub answers : List ℕ → List Lending → List Given
+answers w [] = []
+answers w (c ∷ cs) = given (buffer c) (replyTo w c) ∷ answers (areaAfter w c) cs
+
+abbrev pub areaAtEnd : List ℕ → List Lending → List ℕ
+areaAtEnd w [] = w
+areaAtEnd w (c ∷ cs) = areaAtEnd (areaAfter w c) cs
+
+-- document 01's bookings: the held circuits of an area, each with its units and path
+abbrev pub bookings : List ℕ → List Circuit
+bookings w = station w .held
+
+-- the ledger after a list
+abbrev pub atEnd : Ledger → List Event → Ledger
+atEnd l [] = l
+atEnd l (e ∷ es) = atEnd (moved l (e .call) (told (e .call) (e .reply))) es
+
+-- ---- quotes struck
+-- ds is cs with some of its quotes struck, no matter which. A call that remains has the same numbers and is lent as many
+-- words, of any contents.
+pub data Struck : List Lending → List Lending → Type 0 where
+  end : Struck [] []
+  strike : {work room : List ℕ} {r : Request} {cs ds : List Lending} → Struck cs ds → Struck (quoting work room r ∷ cs) ds
+  keep : {c d : Lending} {cs ds : List Lending} → measured c ≡ measured d → Struck cs ds → Struck (c ∷ cs) (d ∷ ds)
+
+-- of the answers to cs, those to the calls that remain
+abbrev pub remaining : {cs ds : List Lending} → Struck cs ds → List Given → List Given
+remaining end l = []
+remaining (strike s) [] = []
+remaining (strike s) (a ∷ l) = remaining s l
+remaining (keep e s) [] = []
+remaining (keep e s) (a ∷ l) = a ∷ remaining s l
