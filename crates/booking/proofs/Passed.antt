@@ -15,7 +15,7 @@ use Rattle.area.specs.Station.{Table, Circuit, headOf, station}
 use Rattle.area.specs.Books.{Books, holds, books, net, whole}
 use Rattle.area.specs.Formed.{CircuitFits}
 use Rattle.area.proofs.Found.{held-length}
-use Rattle.booking.specs.Replies.{Reply, refuses, grants, releases}
+use Rattle.booking.specs.Replies.{refuses, grants, releases}
 use Rattle.booking.specs.Calls.{booksIn}
 
 -- ---- replies

@@ -2,14 +2,14 @@
 -- as the grant says. Each law goes by the next rule.
 -- Assumes nothing.
 use Prim.Native.Nat.{ℕ}
-use mathlib.Core.Path.{_≡_, refl, sym, ap, _∙_}
+use mathlib.Core.Path.{_≡_, sym, ap, _∙_}
 use mathlib.Core.List.{List, [], _∷_, _++_}
 use mathlib.Core.Logic.{inl, inr, _↔_}
 use Rattle.network.specs.Lists.{All}
 use Rattle.booking.specs.Replies.{Reply, refuses}
 use Rattle.booking.specs.Rules.{Rule, Answered}
 use Rattle.ledger.specs.Ledger.{FirstApplies}
-use Rattle.ledger.specs.Demand.{IsRefused, Passes}
+use Rattle.ledger.specs.Sentences.{IsRefused, Passes}
 
 same-number : (k j : ℕ) → refuses k ≡ refuses j → k ≡ j
 same-number k j e = cc

@@ -13,13 +13,13 @@ use Rattle.area.proofs.Order.{agrees-eq, agrees-next, agrees-sym}
 use Rattle.station.specs.declared.Loading.the-variants.{Loaded}
 use Rattle.station.specs.Load.{loadAnswer, areaLoaded}
 use Rattle.station.proofs.Loads.{accepted-station, accepted-formed}
-use Rattle.booking.specs.Replies.{Reply, grants}
+use Rattle.booking.specs.Replies.{Reply}
 use Rattle.booking.specs.Calls.{quote, admission}
 use Rattle.booking.specs.Meaning.{netFor}
 use Rattle.booking.proofs.Meaning.{quote-means, admission-means}
 use Rattle.ledger.specs.Ledger.{Call, Ledger, opened}
-use Rattle.ledger.specs.History.{Lending, history, Struck}
-use Rattle.ledger.specs.Demand.{AtEvery, PathsGranted, Throughout, ThirdDemand, SecondDemand}
+use Rattle.ledger.specs.History.{Lending, history}
+use Rattle.ledger.specs.Demand.{PathsGranted, Throughout, ThirdDemand, SecondDemand}
 use Rattle.ledger.proofs.Steps.{Says}
 use Rattle.ledger.proofs.Places.{refused-as, not-five, answered, exactly-refused, enough-granted, paths-granted, paths-past-five}
 use Rattle.ledger.proofs.Histories.{followed, ends-agree, at-every, Twins, struck-answers, struck-ends}

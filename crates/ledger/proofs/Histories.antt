@@ -13,7 +13,7 @@ use Rattle.booking.specs.Replies.{Reply, releases}
 use Rattle.booking.specs.Rules.{Answered, Grant, requestRules, numberRules, searchRules, releaseRules}
 use Rattle.ledger.specs.Ledger.{Call, quoting, admitting, releasing, told, Ledger, moved}
 use Rattle.ledger.specs.History.{Lending, measured, replyTo, areaAfter, buffer, Event, history, answers, areaAtEnd, atEnd, Struck, end, strike, keep, remaining}
-use Rattle.ledger.specs.Demand.{AtEvery}
+use Rattle.ledger.specs.Sentences.{AtEvery}
 use Rattle.ledger.proofs.Given.{given-alike}
 use Rattle.ledger.proofs.Steps.{Says, says, moves, keeps, replies-alike, moved-agree}
 

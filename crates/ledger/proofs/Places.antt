@@ -17,7 +17,8 @@ use Rattle.booking.specs.Rules.{Rule, Answered, Grant, requestRules, numberRule
 use Rattle.booking.specs.Meaning.{quoteRules, netFor}
 use Rattle.booking.proofs.Passed.{granted-not-refused, released-not-refused}
 use Rattle.ledger.specs.Ledger.{Call, quoting, admitting, releasing, told, Ledger, seen, checks, rules, Refuses, Grants, moved}
-use Rattle.ledger.specs.Demand.{IsRefused, IsGranted, Passes, Solvable, Overqualifies, Searching, PathsGranted}
+use Rattle.ledger.specs.Sentences.{IsRefused, IsGranted, Passes, Solvable, Overqualifies, OfRequest}
+use Rattle.ledger.specs.Demand.{PathsGranted}
 use Rattle.ledger.proofs.Answers.{past, unrefused, refused-exactly, not-among}
 use Rattle.ledger.proofs.Searches.{request-fits, grant-proper, search-exactly, search-enough, grant-path-granted}
 use Rattle.ledger.proofs.Steps.{Says}
@@ -56,7 +57,7 @@ refused-alone l (releasing c) k (inr (m, e)) = absurd (released-not-refused k e)
 
 -- ---- past the checks
 pub exactly-refused : (l : Ledger) (q : Call ℕ) (a : Reply) → Says l q a → Passes (checks l q)
-    → Searching (λ g r b. IsRefused b ↔ (Solvable g r → ⊥)) l q a
+    → OfRequest (λ g r b. IsRefused b ↔ (Solvable g r → ⊥)) l q a
 exactly-refused l (quoting work room r) a h n = search-exactly (seen l r) r a (past _ (checks l (quoting work room r)) _ a n h)
 exactly-refused l (admitting work room c r) a h n =
     search-exactly (seen l r) r a (past _ (checks l (admitting work room c r)) _ a n h)
@@ -74,7 +75,7 @@ module _ (l : Ledger) (work room : ℕ) (r : Request) (rs : List Rule) (n : Pass
   granted-path a h k d x p e = grant-path-granted (seen l r) r (books l .table .nodes) fits (subst (Grant (seen l r) r) e h)
 
 pub enough-granted : (l : Ledger) (q : Call ℕ) (a : Reply) → Says l q a → Passes (checks l q)
-    → Searching (λ g r b. Overqualifies g r → IsGranted b) l q a
+    → OfRequest (λ g r b. Overqualifies g r → IsGranted b) l q a
 enough-granted l (quoting work room r) a h n =
     enough l work room r [] n a (past _ (checks l (quoting work room r)) _ a n h)
 enough-granted l (admitting work room c r) a h n =
@@ -93,7 +94,7 @@ paths-past l work room r rs a h k d x p e =
     let on = unrefused _ (requestRules (books l) work room r ++ rs) a h (granted-proper a k d x p e) in
     granted-path l work room r rs (on .0) a (on .1) k d x p e
 
-pub paths-granted : (l : Ledger) (q : Call ℕ) (a : Reply) → Says l q a → Searching PathsGranted l q a
+pub paths-granted : (l : Ledger) (q : Call ℕ) (a : Reply) → Says l q a → OfRequest PathsGranted l q a
 paths-granted l (quoting work room r) a h = paths-past l work room r _ a h
 paths-granted l (admitting work room c r) a h = paths-past l work room r _ a h
 paths-granted l (releasing c) a h = tt

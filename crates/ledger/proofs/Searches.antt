@@ -2,23 +2,24 @@
 -- a path is overqualified, and a granted path meets both bounds.
 -- Assumes nothing.
 use Prim.Native.Nat.{ℕ, _*_, _<_}
-use mathlib.Core.Path.{_≡_, refl, sym, _∙_, subst}
-use mathlib.Core.Bool.{false, true≢false}
+use mathlib.Core.Path.{refl, sym, _∙_, subst}
+use mathlib.Core.Bool.{true≢false}
 use mathlib.Core.List.{List}
 use mathlib.Core.Logic.{inl, inr, _↔_}
 use Rattle.network.specs.Net.{Net}
-use Rattle.network.specs.Problem.{Solves, NoPath, Distance}
-use Rattle.network.specs.Reduce.{delayBound, costBound, one, two, WithinBounds}
+use Rattle.network.specs.Problem.{Solves, Distance}
+use Rattle.network.specs.Reduce.{delayBound, costBound, one, two}
 use Rattle.network.specs.declared.Request.{Request}
 use Rattle.network.proofs.Tests.{by-bool}
 use Rattle.network.proofs.Bounds.{x-positive, one-distance, solution-one-within, solution-two-within, overqualified-solves-one, overqualified-solves-two}
 use Rattle.route.specs.Result.{Unsolved}
 use Rattle.booking.specs.Requests.{RequestFits, requestFits}
-use Rattle.booking.specs.Replies.{Reply, refuses, grants}
+use Rattle.booking.specs.Replies.{Reply, grants}
 use Rattle.booking.specs.Rules.{Answered, Grant, by-one, by-two, searchRules}
 use Rattle.booking.proofs.Passed.{granted-not-refused}
 use Rattle.booking.proofs.Meaning.{request-says, request-test}
-use Rattle.ledger.specs.Demand.{IsRefused, IsGranted, Solvable, Overqualifies, GrantedPath}
+use Rattle.ledger.specs.Sentences.{IsRefused, IsGranted, Solvable, Overqualifies}
+use Rattle.ledger.specs.Demand.{GrantedPath}
 
 -- a request fits or does not, by its test
 pub request-fits : (n : ℕ) (r : Request) → ((RequestFits n r → ⊥) → ⊥) → RequestFits n r

@@ -3,15 +3,15 @@
 -- Assumes nothing.
 use Prim.Native.Nat.{ℕ}
 use mathlib.Core.Path.{_≡_, refl, sym, ap, _∙_}
-use mathlib.Core.Bool.{true, false}
-use mathlib.Core.List.{List, [], _∷_}
+use mathlib.Core.Bool.{false}
+use mathlib.Core.List.{List, _∷_}
 use mathlib.Core.Logic.{inl, inr}
 use mathlib.Core.Option.{Option, none, some}
 use native.Mathlib.Omega.{arith}
 use lib.ListN.{length}
 use Rattle.network.specs.declared.Request.{Request}
-use Rattle.area.specs.Station.{Circuit, Station, station}
-use Rattle.area.specs.Books.{Books, books, holds}
+use Rattle.area.specs.Station.{Circuit, station}
+use Rattle.area.specs.Books.{books, holds}
 use Rattle.area.specs.Formed.{WellFormed, wellFormed}
 use Rattle.area.specs.Moves.{withoutNumber}
 use Rattle.area.specs.Order.{Agrees, skip}
@@ -20,8 +20,7 @@ use Rattle.area.proofs.Keeps.{without-none}
 use Rattle.area.proofs.Order.{agrees-refl, agrees-eq, books-agree, without-same}
 use Rattle.booking.specs.Replies.{Reply, refuses, grants, releases}
 use Rattle.booking.specs.Calls.{quote, admission, booked, release, cleared, booksIn}
-use Rattle.booking.specs.Rules.{Rule, _when_, Answered, releaseRules}
-use Rattle.booking.specs.Meaning.{Cleared}
+use Rattle.booking.specs.Rules.{Rule, _when_, Answered}
 use Rattle.booking.proofs.Passed.{released-not-refused}
 use Rattle.booking.proofs.Meaning.{quote-means, admission-means, release-means}
 use Rattle.booking.proofs.Bookings.{admitted-station, admitted-formed, released-station, released-formed}

@@ -1,6 +1,5 @@
 -- Any quotes of a list may be struck: whichever are chosen, the rest is the list with quotes struck.
 -- Assumes nothing.
-use Prim.Native.Nat.{ℕ}
 use mathlib.Core.Path.{refl}
 use mathlib.Core.Bool.{Bool, true, false}
 use mathlib.Core.List.{List, [], _∷_}

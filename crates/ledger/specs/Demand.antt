@@ -2,61 +2,21 @@
 -- Assumes nothing.
 use Prim.Native.Nat.{ℕ}
 use mathlib.Core.Path.{_≡_}
-use mathlib.Core.List.{List, [], _∷_}
+use mathlib.Core.List.{List}
 use mathlib.Core.Logic.{_⊎_, _↔_}
 use Rattle.network.specs.Lists.{Distinct}
-use Rattle.network.specs.Net.{Net, Walk, IsPath, nodesOf, sum}
-use Rattle.network.specs.Problem.{Solves, Distance}
-use Rattle.network.specs.Reduce.{one, two, WithinBounds, Enough}
+use Rattle.network.specs.Net.{Net, Walk, nodesOf, sum}
+use Rattle.network.specs.Reduce.{WithinBounds}
 use Rattle.network.specs.declared.Request.{Request}
 use Rattle.route.specs.Result.{GrantedByOne, GrantedByTwo}
 use Rattle.area.specs.Order.{Same}
 use Rattle.station.specs.declared.Loading.the-variants.{Loaded}
 use Rattle.station.specs.Load.{loadAnswer, areaLoaded}
 use Rattle.booking.specs.Replies.{Reply, refuses, grants}
-use Rattle.booking.specs.Rules.{Rule}
-use Rattle.ledger.specs.Ledger.{Call, quoting, admitting, releasing, told, Ledger, opened, seen, checks, Refuses, Grants, moved}
-use Rattle.ledger.specs.History.{Lending, Event, history, answers, areaAtEnd, bookings, atEnd, Struck, remaining}
+use Rattle.ledger.specs.Ledger.{Call, Ledger, opened, checks, Refuses, Grants}
+use Rattle.ledger.specs.History.{Lending, history, answers, areaAtEnd, bookings, atEnd, Struck, remaining}
+use Rattle.ledger.specs.Sentences.{IsRefused, IsGranted, Passes, Solvable, Overqualifies, AtEvery, OfRequest}
 
--- ---- words
-abbrev pub IsRefused : Reply → Type 0
-IsRefused a = (k : ℕ) × (a ≡ refuses k)
-
-abbrev pub IsGranted : Reply → Type 0
-IsGranted a = (k : ℕ) × (d : ℕ) × (x : ℕ) × (p : List ℕ) × (a ≡ grants k d x p)
-
--- no rule of the list applies
-abbrev pub Passes : List Rule → Type 0
-Passes [] = Unit
-Passes (r ∷ rs) = (r .applies → ⊥) × Passes rs
-
-module _ (g : Net) (r : Request) where
-  -- k is the distance of the request's nodes, so that x is the coefficient times k
-  abbrev pub Far : ℕ → Type 0
-  Far k = Distance g (r .source) (r .target) k
-
-  -- a usable path solves one of the two reduced problems
-  abbrev pub Solvable : Type 0
-  Solvable =
-      (k : ℕ) × Far k
-      × ((p : List ℕ) × (Solves g (one g r k) (r .source) (r .target) p ⊎ Solves g (two g r k) (r .source) (r .target) p))
-
-  -- a usable path is overqualified in either way: by the paper's condition one or its condition two
-  abbrev pub Overqualifies : Type 0
-  Overqualifies = (k : ℕ) × Far k × ((p : List ℕ) × IsPath g (r .source) (r .target) p × Enough g r k p)
-
--- P holds at every place of a list: of the ledger as it stands there, the call and its answer
-abbrev pub AtEvery : (Ledger → Call ℕ → Reply → Type 0) → Ledger → List Event → Type 0
-AtEvery P l [] = Unit
-AtEvery P l (e ∷ es) = P l (e .call) (e .reply) × AtEvery P (moved l (e .call) (told (e .call) (e .reply))) es
-
--- P holds where a call is a quote or an admission: of the network that its request sees, the request and the answer
-abbrev pub Searching : (Net → Request → Reply → Type 0) → Ledger → Call ℕ → Reply → Type 0
-Searching P l (quoting work room r) a = P (seen l r) r a
-Searching P l (admitting work room c r) a = P (seen l r) r a
-Searching P l (releasing c) a = Unit
-
--- ---- the demands
 -- what the second demand says of a path p that problem k granted a request, answered with the totals d and x
 pub record GrantedPath (g : Net) (r : Request) (k d x : ℕ) (p : List ℕ) : Type 0 where
   -- it runs from source to destination, by usable links that follow one another
@@ -90,13 +50,13 @@ module _ (w : List ℕ) (n : ℕ) (links : List ℕ) (cs : List Lending) where
     -- and 5 never occurs
     pub no-five : Throughout (λ l q a. a ≡ refuses 5 → ⊥)
     -- past the checks a request is refused exactly when no usable path solves either reduced problem
-    pub exactly : Throughout (λ l q a. Passes (checks l q) → Searching (λ g r b. IsRefused b ↔ (Solvable g r → ⊥)) l q a)
+    pub exactly : Throughout (λ l q a. Passes (checks l q) → OfRequest (λ g r b. IsRefused b ↔ (Solvable g r → ⊥)) l q a)
     -- "grants answer as the ledger says": a best path of its problem, with its own sums
     pub granted : Throughout (λ l q a. (IsRefused a → ⊥) → Grants l q a)
     -- "and book as the ledger says": after the list, and so after every call, the bookings are exactly the entries
     pub books : Same (bookings (areaAtEnd start cs)) (atEnd (opened n links) (history start cs) .held)
     -- "overqualified paths are always enough"
-    pub enough : Throughout (λ l q a. Passes (checks l q) → Searching (λ g r b. Overqualifies g r → IsGranted b) l q a)
+    pub enough : Throughout (λ l q a. Passes (checks l q) → OfRequest (λ g r b. Overqualifies g r → IsGranted b) l q a)
     -- "striking the quotes changes no other answer nor the final bookings", from any area v loaded with the same numbers
     -- and whatever words the calls are lent
     pub struck : (v : List ℕ) → loadAnswer v n links ≡ Loaded → (ds : List Lending) (s : Struck cs ds)
@@ -105,4 +65,4 @@ module _ (w : List ℕ) (n : ℕ) (links : List ℕ) (cs : List Lending) where
 
   -- every path granted at any place of the list
   abbrev pub SecondDemand : Type 0
-  SecondDemand = Throughout (Searching PathsGranted)
+  SecondDemand = Throughout (OfRequest PathsGranted)

@@ -1,3 +1,4 @@
 pub mod Ledger
 pub mod History
+pub mod Sentences
 pub mod Demand

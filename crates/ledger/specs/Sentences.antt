@@ -1,0 +1,52 @@
+-- The words that the demands are said with: of a reply, of the rules, of the network that a request sees, and of a
+-- place in a list of calls.
+-- Assumes nothing.
+use Prim.Native.Nat.{ℕ}
+use mathlib.Core.Path.{_≡_}
+use mathlib.Core.List.{List, [], _∷_}
+use mathlib.Core.Logic.{_⊎_}
+use Rattle.network.specs.Net.{Net, IsPath}
+use Rattle.network.specs.Problem.{Solves, Distance}
+use Rattle.network.specs.Reduce.{one, two, Enough}
+use Rattle.network.specs.declared.Request.{Request}
+use Rattle.booking.specs.Replies.{Reply, refuses, grants}
+use Rattle.booking.specs.Rules.{Rule}
+use Rattle.ledger.specs.Ledger.{Call, quoting, admitting, releasing, told, Ledger, seen, moved}
+use Rattle.ledger.specs.History.{Event}
+
+abbrev pub IsRefused : Reply → Type 0
+IsRefused a = (k : ℕ) × (a ≡ refuses k)
+
+abbrev pub IsGranted : Reply → Type 0
+IsGranted a = (k : ℕ) × (d : ℕ) × (x : ℕ) × (p : List ℕ) × (a ≡ grants k d x p)
+
+-- no rule of the list applies
+abbrev pub Passes : List Rule → Type 0
+Passes [] = Unit
+Passes (r ∷ rs) = (r .applies → ⊥) × Passes rs
+
+module _ (g : Net) (r : Request) where
+  -- the request's nodes are at distance k, so x is the coefficient times k
+  abbrev pub AtDistance : ℕ → Type 0
+  AtDistance k = Distance g (r .source) (r .target) k
+
+  -- a usable path solves one of the two reduced problems
+  abbrev pub Solvable : Type 0
+  Solvable =
+      (k : ℕ) × AtDistance k
+      × ((p : List ℕ) × (Solves g (one g r k) (r .source) (r .target) p ⊎ Solves g (two g r k) (r .source) (r .target) p))
+
+  -- a usable path is overqualified in either way: by the paper's condition one or its condition two
+  abbrev pub Overqualifies : Type 0
+  Overqualifies = (k : ℕ) × AtDistance k × ((p : List ℕ) × IsPath g (r .source) (r .target) p × Enough g r k p)
+
+-- P holds at every place of a list: of the ledger as it stands there, the call and its answer
+abbrev pub AtEvery : (Ledger → Call ℕ → Reply → Type 0) → Ledger → List Event → Type 0
+AtEvery P l [] = Unit
+AtEvery P l (e ∷ es) = P l (e .call) (e .reply) × AtEvery P (moved l (e .call) (told (e .call) (e .reply))) es
+
+-- P holds where a call is a quote or an admission: of the network that its request sees, the request and the answer
+abbrev pub OfRequest : (Net → Request → Reply → Type 0) → Ledger → Call ℕ → Reply → Type 0
+OfRequest P l (quoting work room r) a = P (seen l r) r a
+OfRequest P l (admitting work room c r) a = P (seen l r) r a
+OfRequest P l (releasing c) a = Unit
