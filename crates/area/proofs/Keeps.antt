@@ -91,6 +91,10 @@ without-none k (c ∷ l) e =
     let h = or-none (eqb k (c .number)) (holds l k) e in
     rw (h .0) (ap (λ (m : List Circuit). c ∷ m) (without-none k l (h .1)))
 
+pub unheld-stays : (s : Station) (k : ℕ) → holds (s .held) k ≡ false → withoutNumber s k ≡ s
+unheld-stays s k e =
+    ap (λ (held : List Circuit). record { table = s .table; held = held }) (without-none k (s .held) e)
+
 -- a number that is held: one circuit goes
 pub without-one : (k : ℕ) (l : List Circuit) → Distinct (numbers l) → holds l k ≡ true → length (without k l) + 1 ≡ length l
 without-one k [] h e = absurd (false≢true e)

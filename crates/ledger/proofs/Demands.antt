@@ -7,6 +7,7 @@ use mathlib.Core.Path.{_≡_}
 use mathlib.Core.List.{List}
 use Rattle.network.specs.declared.Request.{Request}
 use Rattle.area.specs.Station.{station}
+use Rattle.area.specs.Books.{Books}
 use Rattle.area.specs.Formed.{WellFormed}
 use Rattle.area.specs.Order.{Agrees}
 use Rattle.area.proofs.Order.{agrees-eq, agrees-next, agrees-sym}
@@ -17,7 +18,7 @@ use Rattle.booking.specs.Replies.{Reply}
 use Rattle.booking.specs.Calls.{quote, admission}
 use Rattle.booking.specs.Meaning.{netFor}
 use Rattle.booking.proofs.Meaning.{quote-means, admission-means}
-use Rattle.ledger.specs.Ledger.{Call, Ledger, opened}
+use Rattle.ledger.specs.Ledger.{Call, opened}
 use Rattle.ledger.specs.History.{Lending, history}
 use Rattle.ledger.specs.Demand.{PathsGranted, Throughout, ThirdDemand, SecondDemand}
 use Rattle.ledger.proofs.Steps.{Says}
@@ -37,7 +38,7 @@ module _ (n : ℕ) (links : List ℕ) where
     said cs = followed (areaLoaded w n links) (opened n links) formed opens cs
 
     -- what follows from the ledger's word at one place holds throughout
-    throughout : (P : Ledger → Call ℕ → Reply → Type 0) → ((l : Ledger) (q : Call ℕ) (a : Reply) → Says l q a → P l q a)
+    throughout : (P : Books → Call ℕ → Reply → Type 0) → ((o : Books) (q : Call ℕ) (a : Reply) → Says o q a → P o q a)
         → (cs : List Lending)
         → Throughout w n links cs P
     throughout P one cs = at-every P one (opened n links) (history (areaLoaded w n links) cs) (said cs)

@@ -3,28 +3,31 @@
 -- Assumes nothing.
 use Prim.Native.Nat.{ℕ}
 use mathlib.Core.Path.{_≡_, refl, sym, ap₂, subst}
-use mathlib.Core.List.{List, [], _∷_, _++_}
+use mathlib.Core.List.{List, [], _∷_}
+use mathlib.Core.Option.{Option, none, some}
 use Rattle.area.specs.Station.{station}
-use Rattle.area.specs.Books.{Books, books, net}
+use Rattle.area.specs.Books.{Books, books}
 use Rattle.area.specs.Formed.{WellFormed}
-use Rattle.area.specs.Order.{Agrees}
-use Rattle.area.proofs.Order.{agrees-next, agrees-sym, books-agree}
-use Rattle.booking.specs.Replies.{Reply, releases}
-use Rattle.booking.specs.Rules.{Answered, Grant, requestRules, numberRules, searchRules, releaseRules}
+use Rattle.area.specs.Order.{Agrees, skip}
+use Rattle.area.proofs.Order.{agrees-next, agrees-sym, books-agree, without-same}
+use Rattle.booking.specs.Replies.{Reply}
 use Rattle.ledger.specs.Ledger.{Call, quoting, admitting, releasing, told, Ledger, moved}
 use Rattle.ledger.specs.History.{Lending, measured, replyTo, areaAfter, buffer, Event, history, answers, areaAtEnd, atEnd, Struck, end, strike, keep, remaining}
 use Rattle.ledger.specs.Sentences.{AtEvery}
 use Rattle.ledger.proofs.Given.{given-alike}
-use Rattle.ledger.proofs.Steps.{Says, says, moves, keeps, replies-alike, moved-agree}
+use Rattle.ledger.proofs.Steps.{Says, says, moves, keeps, replies-alike}
 
+-- ---- the same entries in any order
 -- what the ledger says goes by its books
-says-agree : (l m : Ledger) (q : Call ℕ) (a : Reply) → books l ≡ books m → Says l q a → Says m q a
-says-agree l m (quoting work room r) a =
-    subst (λ (o : Books). Answered (Grant (net o (r .units)) r) (requestRules o work room r ++ searchRules (net o (r .units)) r) a)
-says-agree l m (admitting work room c r) a =
-    subst
-    (λ (o : Books). Answered (Grant (net o (r .units)) r) (requestRules o work room r ++ numberRules o c ++ searchRules (net o (r .units)) r) a)
-says-agree l m (releasing c) a = subst (λ (o : Books). Answered (λ b. b ≡ releases) (releaseRules o c) a)
+says-agree : (l m : Ledger) (q : Call ℕ) (a : Reply) → Agrees l m → Says (books l) q a → Says (books m) q a
+says-agree l m q a agrees = subst (λ (o : Books). Says o q a) (books-agree agrees)
+
+-- and it moves alike
+moved-agree : (q : Call ℕ) (path : Option (List ℕ)) (l m : Ledger) → Agrees l m → Agrees (moved l q path) (moved m q path)
+moved-agree (quoting work room r) path l m h = h
+moved-agree (admitting work room c r) none l m h = h
+moved-agree (admitting work room c r) (some p) l m h = record { table = h .table; held = skip (h .held) }
+moved-agree (releasing c) path l m h = record { table = h .table; held = without-same c (h .held) }
 
 -- ---- the ledger beside the area
 -- one call keeps them in agreement
@@ -36,7 +39,7 @@ next-agrees w l formed agrees c =
 pub followed : (w : List ℕ) (l : Ledger) → WellFormed w → Agrees (station w) l → (cs : List Lending) → AtEvery Says l (history w cs)
 followed w l formed agrees [] = tt
 followed w l formed agrees (c ∷ cs) = (
-  says-agree (station w) l (measured c) (replyTo w c) (books-agree agrees) (says w formed c),
+  says-agree (station w) l (measured c) (replyTo w c) agrees (says w formed c),
   followed (areaAfter w c) _ (keeps w formed c) (next-agrees w l formed agrees c) cs,
 )
 
@@ -46,11 +49,11 @@ ends-agree w l formed agrees [] = agrees
 ends-agree w l formed agrees (c ∷ cs) = ends-agree (areaAfter w c) _ (keeps w formed c) (next-agrees w l formed agrees c) cs
 
 -- what follows from the ledger's word at one place holds at every place
-pub at-every : (P : Ledger → Call ℕ → Reply → Type 0) → ((l : Ledger) (q : Call ℕ) (a : Reply) → Says l q a → P l q a)
+pub at-every : (P : Books → Call ℕ → Reply → Type 0) → ((o : Books) (q : Call ℕ) (a : Reply) → Says o q a → P o q a)
     → (l : Ledger) (es : List Event) → AtEvery Says l es
     → AtEvery P l es
 at-every P one l [] h = tt
-at-every P one l (e ∷ es) h = (one l (e .call) (e .reply) (h .0), at-every P one _ es (h .1))
+at-every P one l (e ∷ es) h = (one (books l) (e .call) (e .reply) (h .0), at-every P one _ es (h .1))
 
 -- ---- quotes struck
 -- two well-formed areas with the same circuits

@@ -1,16 +1,16 @@
--- Each sentence of the demands at one place of a list, drawn from what the ledger says there: l is the ledger as it
--- stands, q the call, a its answer.
+-- Each sentence of the demands at one place of a list, drawn from what the ledger says there: o is its books, q
+-- the call, a the answer.
 -- Assumes nothing.
 use Prim.Native.Nat.{ℕ}
-use mathlib.Core.Path.{_≡_, refl, sym, ap, _∙_, subst}
+use mathlib.Core.Path.{_≡_, refl, sym, _∙_, subst}
 use mathlib.Core.List.{List, [], _++_}
 use mathlib.Core.Logic.{inl, inr, _↔_}
 use native.Mathlib.Omega.{arith}
 use Rattle.network.specs.Lists.{All}
 use Rattle.network.specs.declared.Request.{Request}
-use Rattle.area.specs.Station.{Circuit, station}
-use Rattle.area.specs.Books.{books}
-use Rattle.area.proofs.Keeps.{without-none}
+use Rattle.area.specs.Books.{Books, books}
+use Rattle.area.proofs.Keeps.{unheld-stays}
+use Rattle.booking.specs.Calls.{booksIn}
 use Rattle.booking.specs.Requests.{RequestFits}
 use Rattle.booking.specs.Replies.{Reply, refuses, grants}
 use Rattle.booking.specs.Rules.{Rule, Answered, Grant, requestRules, numberRules, searchRules}
@@ -24,80 +24,79 @@ use Rattle.ledger.proofs.Searches.{request-fits, grant-proper, search-e
 use Rattle.ledger.proofs.Steps.{Says}
 
 -- a grant is no refusal
-proper : (l : Ledger) (q : Call ℕ) (a : Reply) → Grants l q a → IsRefused a → ⊥
-proper l (quoting work room r) a = grant-proper (seen l r) r a
-proper l (admitting work room c r) a = grant-proper (seen l r) r a
-proper l (releasing c) a = λ h refused. released-not-refused (refused .0) (sym (refused .1) ∙ h)
+proper : (o : Books) (q : Call ℕ) (a : Reply) → Grants o q a → IsRefused a → ⊥
+proper o (quoting work room r) a = grant-proper (seen o r) r a
+proper o (admitting work room c r) a = grant-proper (seen o r) r a
+proper o (releasing c) a = λ h refused. released-not-refused (refused .0) (sym (refused .1) ∙ h)
 
-pub refused-as : (l : Ledger) (q : Call ℕ) (a : Reply) → Says l q a → (k : ℕ) → (a ≡ refuses k) ↔ Refuses l q k
-refused-as l q a = refused-exactly (Grants l q) (proper l q) (rules l q) a
+pub refused-as : (o : Books) (q : Call ℕ) (a : Reply) → Says o q a → (k : ℕ) → (a ≡ refuses k) ↔ Refuses o q k
+refused-as o q a = refused-exactly (Grants o q) (proper o q) (rules o q) a
 
 -- no rule has the number 5
-five-not-among : (l : Ledger) (q : Call ℕ) → All (λ (r : Rule). 5 ≡ r .number → ⊥) (rules l q)
-five-not-among l (quoting work room r) =
+five-not-among : (o : Books) (q : Call ℕ) → All (λ (r : Rule). 5 ≡ r .number → ⊥) (rules o q)
+five-not-among o (quoting work room r) =
     (λ e. omega arith, (λ e. omega arith, (λ e. omega arith, (λ e. omega arith, (λ e. omega arith, tt)))))
-five-not-among l (admitting work room c r) =
+five-not-among o (admitting work room c r) =
     (λ e. omega arith, (λ e. omega arith, (λ e. omega arith, (λ e. omega arith, (λ e. omega arith, (λ e. omega arith, (λ e. omega arith, tt)))))))
-five-not-among l (releasing c) = (λ e. omega arith, tt)
+five-not-among o (releasing c) = (λ e. omega arith, tt)
 
-pub not-five : (l : Ledger) (q : Call ℕ) (a : Reply) → Says l q a → a ≡ refuses 5 → ⊥
-not-five l q a h e = not-among 5 (rules l q) (five-not-among l q) (refused-as l q a h 5 .0 e)
+pub not-five : (o : Books) (q : Call ℕ) (a : Reply) → Says o q a → a ≡ refuses 5 → ⊥
+not-five o q a h e = not-among 5 (rules o q) (five-not-among o q) (refused-as o q a h 5 .0 e)
 
-pub answered : (l : Ledger) (q : Call ℕ) (a : Reply) → Says l q a → (IsRefused a → ⊥) → Grants l q a
-answered l q a h n = unrefused (Grants l q) (rules l q) a h n .1
+pub answered : (o : Books) (q : Call ℕ) (a : Reply) → Says o q a → (IsRefused a → ⊥) → Grants o q a
+answered o q a h n = unrefused (Grants o q) (rules o q) a h n .1
 
 -- "a quote and a refused call leave the ledger alone": where a release is refused, no entry has its number
-pub refused-alone : (l : Ledger) (q : Call ℕ) (k : ℕ) → Says l q (refuses k) → moved l q (told q (refuses k)) ≡ l
+pub refused-alone : (l : Ledger) (q : Call ℕ) (k : ℕ) → Says (books l) q (refuses k) → moved l q (told q (refuses k)) ≡ l
 unfolding Answered books
 refused-alone l (quoting work room r) k h = refl
 refused-alone l (admitting work room c r) k h = refl
-refused-alone l (releasing c) k (inl (lacks, e)) =
-    ap (λ (held : List Circuit). record { table = l .table; held = held }) (without-none c (l .held) lacks)
+refused-alone l (releasing c) k (inl (lacks, e)) = unheld-stays l c lacks
 refused-alone l (releasing c) k (inr (m, e)) = absurd (released-not-refused k e)
 
 -- ---- past the checks
-pub exactly-refused : (l : Ledger) (q : Call ℕ) (a : Reply) → Says l q a → Passes (checks l q)
-    → OfRequest (λ g r b. IsRefused b ↔ (Solvable g r → ⊥)) l q a
-exactly-refused l (quoting work room r) a h n = search-exactly (seen l r) r a (past _ (checks l (quoting work room r)) _ a n h)
-exactly-refused l (admitting work room c r) a h n =
-    search-exactly (seen l r) r a (past _ (checks l (admitting work room c r)) _ a n h)
-exactly-refused l (releasing c) a h n = tt
+pub exactly-refused : (o : Books) (q : Call ℕ) (a : Reply) → Says o q a → Passes (checks o q)
+    → OfRequest (λ g r b. IsRefused b ↔ (Solvable g r → ⊥)) o q a
+exactly-refused o (quoting work room r) a h n = search-exactly (seen o r) r a (past _ (checks o (quoting work room r)) _ a n h)
+exactly-refused o (admitting work room c r) a h n =
+    search-exactly (seen o r) r a (past _ (checks o (admitting work room c r)) _ a n h)
+exactly-refused o (releasing c) a h n = tt
 
 -- past rule 8, the third, a request fits
-module _ (l : Ledger) (work room : ℕ) (r : Request) (rs : List Rule) (n : Passes (requestRules (books l) work room r ++ rs)) where
-  fits : RequestFits (books l .table .nodes) r
-  fits = request-fits (books l .table .nodes) r (n .1 .1 .0)
+module _ (o : Books) (work room : ℕ) (r : Request) (rs : List Rule) (n : Passes (requestRules o work room r ++ rs)) where
+  fits : RequestFits (o .table .nodes) r
+  fits = request-fits (o .table .nodes) r (n .1 .1 .0)
 
-  enough : (a : Reply) → Answered (Grant (seen l r) r) (searchRules (seen l r) r) a → Overqualifies (seen l r) r → IsGranted a
-  enough a h = search-enough (seen l r) r (fits .delay-least) (fits .cost-least) a h
+  enough : (a : Reply) → Answered (Grant (seen o r) r) (searchRules (seen o r) r) a → Overqualifies (seen o r) r → IsGranted a
+  enough a h = search-enough (seen o r) r (fits .delay-least) (fits .cost-least) a h
 
-  granted-path : (a : Reply) → Grant (seen l r) r a → PathsGranted (seen l r) r a
-  granted-path a h k d x p e = grant-path-granted (seen l r) r (books l .table .nodes) fits (subst (Grant (seen l r) r) e h)
+  granted-path : (a : Reply) → Grant (seen o r) r a → PathsGranted (seen o r) r a
+  granted-path a h k d x p e = grant-path-granted (seen o r) r (o .table .nodes) fits (subst (Grant (seen o r) r) e h)
 
-pub enough-granted : (l : Ledger) (q : Call ℕ) (a : Reply) → Says l q a → Passes (checks l q)
-    → OfRequest (λ g r b. Overqualifies g r → IsGranted b) l q a
-enough-granted l (quoting work room r) a h n =
-    enough l work room r [] n a (past _ (checks l (quoting work room r)) _ a n h)
-enough-granted l (admitting work room c r) a h n =
-    enough l work room r (numberRules (books l) c) n a (past _ (checks l (admitting work room c r)) _ a n h)
-enough-granted l (releasing c) a h n = tt
+pub enough-granted : (o : Books) (q : Call ℕ) (a : Reply) → Says o q a → Passes (checks o q)
+    → OfRequest (λ g r b. Overqualifies g r → IsGranted b) o q a
+enough-granted o (quoting work room r) a h n =
+    enough o work room r [] n a (past _ (checks o (quoting work room r)) _ a n h)
+enough-granted o (admitting work room c r) a h n =
+    enough o work room r (numberRules o c) n a (past _ (checks o (admitting work room c r)) _ a n h)
+enough-granted o (releasing c) a h n = tt
 
 -- ---- granted paths
 granted-proper : (a : Reply) (k d x : ℕ) (p : List ℕ) → a ≡ grants k d x p → IsRefused a → ⊥
 granted-proper a k d x p e refused = granted-not-refused k d x p (refused .0) (sym (refused .1) ∙ e)
 
 -- by the rules of a request, whatever rules follow
-paths-past : (l : Ledger) (work room : ℕ) (r : Request) (rs : List Rule) (a : Reply)
-    → Answered (Grant (seen l r) r) (requestRules (books l) work room r ++ rs) a
-    → PathsGranted (seen l r) r a
-paths-past l work room r rs a h k d x p e =
-    let on = unrefused _ (requestRules (books l) work room r ++ rs) a h (granted-proper a k d x p e) in
-    granted-path l work room r rs (on .0) a (on .1) k d x p e
+paths-past : (o : Books) (work room : ℕ) (r : Request) (rs : List Rule) (a : Reply)
+    → Answered (Grant (seen o r) r) (requestRules o work room r ++ rs) a
+    → PathsGranted (seen o r) r a
+paths-past o work room r rs a h k d x p e =
+    let on = unrefused _ (requestRules o work room r ++ rs) a h (granted-proper a k d x p e) in
+    granted-path o work room r rs (on .0) a (on .1) k d x p e
 
-pub paths-granted : (l : Ledger) (q : Call ℕ) (a : Reply) → Says l q a → OfRequest PathsGranted l q a
-paths-granted l (quoting work room r) a h = paths-past l work room r _ a h
-paths-granted l (admitting work room c r) a h = paths-past l work room r _ a h
-paths-granted l (releasing c) a h = tt
+pub paths-granted : (o : Books) (q : Call ℕ) (a : Reply) → Says o q a → OfRequest PathsGranted o q a
+paths-granted o (quoting work room r) a h = paths-past o work room r _ a h
+paths-granted o (admitting work room c r) a h = paths-past o work room r _ a h
+paths-granted o (releasing c) a h = tt
 
 -- the same of an area, where 5 is the first rule
 pub paths-past-five : (w : List ℕ) (work room : ℕ) (r : Request) (rs : List Rule) (a : Reply)
@@ -105,4 +104,4 @@ pub paths-past-five : (w : List ℕ) (work room : ℕ) (r : Request) (rs : List 
     → PathsGranted (netFor w r) r a
 paths-past-five w work room r rs a h k d x p e =
     let on = unrefused _ (quoteRules w work room r ++ rs) a h (granted-proper a k d x p e) in
-    granted-path (station w) work room r rs (on .0 .1) a (on .1) k d x p e
+    granted-path (booksIn w) work room r rs (on .0 .1) a (on .1) k d x p e

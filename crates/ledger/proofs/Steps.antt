@@ -3,34 +3,33 @@
 -- Assumes nothing.
 use Prim.Native.Nat.{ℕ}
 use mathlib.Core.Path.{_≡_, refl, sym, ap, _∙_}
-use mathlib.Core.Bool.{false}
 use mathlib.Core.List.{List, _∷_}
 use mathlib.Core.Logic.{inl, inr}
-use mathlib.Core.Option.{Option, none, some}
 use native.Mathlib.Omega.{arith}
 use lib.ListN.{length}
 use Rattle.network.specs.declared.Request.{Request}
-use Rattle.area.specs.Station.{Circuit, station}
-use Rattle.area.specs.Books.{books, holds}
+use Rattle.area.specs.Station.{station}
+use Rattle.area.specs.Books.{books}
+use Rattle.area.specs.Books.{Books, books}
 use Rattle.area.specs.Formed.{WellFormed, wellFormed}
 use Rattle.area.specs.Moves.{withoutNumber}
-use Rattle.area.specs.Order.{Agrees, skip}
+use Rattle.area.specs.Order.{Agrees}
 use Rattle.area.proofs.Formed.{formed-test}
-use Rattle.area.proofs.Keeps.{without-none}
-use Rattle.area.proofs.Order.{agrees-refl, agrees-eq, books-agree, without-same}
+use Rattle.area.proofs.Keeps.{unheld-stays}
+use Rattle.area.proofs.Order.{agrees-refl, agrees-eq, books-agree}
 use Rattle.booking.specs.Replies.{Reply, refuses, grants, releases}
 use Rattle.booking.specs.Calls.{quote, admission, booked, release, cleared, booksIn}
 use Rattle.booking.specs.Rules.{Rule, _when_, Answered}
-use Rattle.booking.proofs.Passed.{released-not-refused}
+use Rattle.booking.proofs.Passed.{granted-not-refused, released-not-refused}
 use Rattle.booking.proofs.Meaning.{quote-means, admission-means, release-means}
 use Rattle.booking.proofs.Bookings.{admitted-station, admitted-formed, released-station, released-formed}
 use Rattle.booking.proofs.Depends.{quote-depends, admission-depends, release-depends}
-use Rattle.ledger.specs.Ledger.{Call, quoting, admitting, releasing, told, Ledger, rules, Grants, moved}
+use Rattle.ledger.specs.Ledger.{Call, quoting, admitting, releasing, told, rules, Grants, moved}
 use Rattle.ledger.specs.History.{Lending, measured, replyTo, areaAfter}
 
--- the reply is what the ledger says
-abbrev pub Says : Ledger → Call ℕ → Reply → Type 0
-Says l q a = Answered (Grants l q) (rules l q) a
+-- a reply is what the ledger says of a call: refused by the first rule that applies, else as it grants
+abbrev pub Says : Books → Call ℕ → Reply → Type 0
+Says o q a = Answered (Grants o q) (rules o q) a
 
 module _ (w : List ℕ) (formed : WellFormed w) where
   -- 5 is not given
@@ -39,7 +38,7 @@ module _ (w : List ℕ) (formed : WellFormed w) where
   past-five G rs a (inl (lacks, e)) = absurd (lacks formed)
   past-five G rs a (inr (_, h)) = h
 
-  pub says : (c : Lending) → Says (station w) (measured c) (replyTo w c)
+  pub says : (c : Lending) → Says (booksIn w) (measured c) (replyTo w c)
   says (quoting work room r) = past-five _ _ _ (quote-means w (length work) (length room) r)
   says (admitting work room c r) = past-five _ _ _ (admission-means w (length work) (length room) c r)
   says (releasing c) = past-five _ _ _ (release-means w c)
@@ -52,17 +51,12 @@ module _ (w : List ℕ) (formed : WellFormed w) where
   admits work room c r (grants k d x p) e = agrees-eq (admitted-station w work room c r k d x p e)
   admits work room c r releases e = agrees-refl (station w)
 
-  -- where a number is not held, no circuit is taken out
-  unheld : (c : ℕ) → holds (station w .held) c ≡ false → Agrees (station w) (withoutNumber (station w) c)
-  unheld c e =
-      agrees-eq (ap (λ (l : List Circuit). record { table = station w .table; held = l }) (sym (without-none c (station w .held) e)))
-
   -- the circuits after a release, by its reply
-  frees : (c : ℕ) (a : Reply) → release w c ≡ a → Says (station w) (releasing c) a → Agrees (station (cleared w c a)) (withoutNumber (station w) c)
+  frees : (c : ℕ) (a : Reply) → release w c ≡ a → Says (booksIn w) (releasing c) a → Agrees (station (cleared w c a)) (withoutNumber (station w) c)
   unfolding cleared Answered books
-  frees c (refuses k) e (inl (lacks, _)) = unheld c lacks
+  frees c (refuses k) e (inl (lacks, _)) = agrees-eq (sym (unheld-stays (station w) c lacks))
   frees c (refuses k) e (inr (_, f)) = absurd (released-not-refused k f)
-  frees c (grants k d x p) e (inl (lacks, _)) = unheld c lacks
+  frees c (grants k d x p) e (inl (_, f)) = absurd (granted-not-refused k d x p 13 (sym f))
   frees c (grants k d x p) e (inr (_, f)) = absurd (let z : _≡_ {A = ℕ} 0 1 = cc in omega arith)
   frees c releases e h = agrees-eq (released-station w c e)
 
@@ -101,10 +95,3 @@ replies-alike w w' formed formed' agrees c d same =
     ∙ ap (replyBy w) same
     ∙ reply-depends w w' (measured d) (formed-test w formed ∙ sym (formed-test w' formed')) (books-agree agrees)
     ∙ sym (reply-measured w' d)
-
--- ledgers that agree move alike
-pub moved-agree : (q : Call ℕ) (path : Option (List ℕ)) (l m : Ledger) → Agrees l m → Agrees (moved l q path) (moved m q path)
-moved-agree (quoting work room r) path l m h = h
-moved-agree (admitting work room c r) none l m h = h
-moved-agree (admitting work room c r) (some p) l m h = record { table = h .table; held = skip (h .held) }
-moved-agree (releasing c) path l m h = record { table = h .table; held = without-same c (h .held) }

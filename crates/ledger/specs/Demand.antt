@@ -9,11 +9,12 @@ use Rattle.network.specs.Net.{Net, Walk, nodesOf, sum}
 use Rattle.network.specs.Reduce.{WithinBounds}
 use Rattle.network.specs.declared.Request.{Request}
 use Rattle.route.specs.Result.{GrantedByOne, GrantedByTwo}
+use Rattle.area.specs.Books.{Books}
 use Rattle.area.specs.Order.{Same}
 use Rattle.station.specs.declared.Loading.the-variants.{Loaded}
 use Rattle.station.specs.Load.{loadAnswer, areaLoaded}
 use Rattle.booking.specs.Replies.{Reply, refuses, grants}
-use Rattle.ledger.specs.Ledger.{Call, Ledger, opened, checks, Refuses, Grants}
+use Rattle.ledger.specs.Ledger.{Call, opened, checks, Refuses, Grants}
 use Rattle.ledger.specs.History.{Lending, history, answers, areaAtEnd, bookings, atEnd, Struck, remaining}
 use Rattle.ledger.specs.Sentences.{IsRefused, IsGranted, Passes, Solvable, Overqualifies, AtEvery, OfRequest}
 
@@ -41,22 +42,22 @@ module _ (w : List ℕ) (n : ℕ) (links : List ℕ) (cs : List Lending) where
   start = areaLoaded w n links
 
   -- P holds at every place of the list, where the ledger opens with the same numbers
-  abbrev pub Throughout : (Ledger → Call ℕ → Reply → Type 0) → Type 0
+  abbrev pub Throughout : (Books → Call ℕ → Reply → Type 0) → Type 0
   Throughout P = AtEvery P (opened n links) (history start cs)
 
   pub record ThirdDemand : Type 0 where
     -- "refusals are exactly document 01's ledger's": refused with k just where k is the first number that applies
-    pub refusals : Throughout (λ l q a. (k : ℕ) → (a ≡ refuses k) ↔ Refuses l q k)
+    pub refusals : Throughout (λ o q a. (k : ℕ) → (a ≡ refuses k) ↔ Refuses o q k)
     -- and 5 never occurs
-    pub no-five : Throughout (λ l q a. a ≡ refuses 5 → ⊥)
+    pub no-five : Throughout (λ o q a. a ≡ refuses 5 → ⊥)
     -- past the checks a request is refused exactly when no usable path solves either reduced problem
-    pub exactly : Throughout (λ l q a. Passes (checks l q) → OfRequest (λ g r b. IsRefused b ↔ (Solvable g r → ⊥)) l q a)
+    pub exactly : Throughout (λ o q a. Passes (checks o q) → OfRequest (λ g r b. IsRefused b ↔ (Solvable g r → ⊥)) o q a)
     -- "grants answer as the ledger says": a best path of its problem, with its own sums
-    pub granted : Throughout (λ l q a. (IsRefused a → ⊥) → Grants l q a)
+    pub granted : Throughout (λ o q a. (IsRefused a → ⊥) → Grants o q a)
     -- "and book as the ledger says": after the list, and so after every call, the bookings are exactly the entries
     pub books : Same (bookings (areaAtEnd start cs)) (atEnd (opened n links) (history start cs) .held)
     -- "overqualified paths are always enough"
-    pub enough : Throughout (λ l q a. Passes (checks l q) → OfRequest (λ g r b. Overqualifies g r → IsGranted b) l q a)
+    pub enough : Throughout (λ o q a. Passes (checks o q) → OfRequest (λ g r b. Overqualifies g r → IsGranted b) o q a)
     -- "striking the quotes changes no other answer nor the final bookings", from any area v loaded with the same numbers
     -- and whatever words the calls are lent
     pub struck : (v : List ℕ) → loadAnswer v n links ≡ Loaded → (ds : List Lending) (s : Struck cs ds)

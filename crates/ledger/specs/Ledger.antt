@@ -10,7 +10,7 @@ use mathlib.Core.Option.{Option, none, some}
 use Rattle.network.specs.Net.{Net}
 use Rattle.network.specs.declared.Request.{Request}
 use Rattle.area.specs.Station.{Circuit, Station}
-use Rattle.area.specs.Books.{books, net}
+use Rattle.area.specs.Books.{Books, net}
 use Rattle.area.specs.Moves.{withCircuit, withoutNumber}
 use Rattle.station.specs.Load.{tableOf}
 use Rattle.booking.specs.Replies.{Reply, refuses, grants, releases}
@@ -41,29 +41,29 @@ Ledger = Station
 abbrev pub opened : ℕ → List ℕ → Ledger
 opened n links = record { table = tableOf n links; held = [] }
 
--- The rules ask for the books of the entries: a link's free units are its capacity minus the units of all entries whose
--- path uses it, and a number is held if an entry has it.
+-- What the rules ask of the entries is in their `books`: a link's free units are its capacity minus the units of all
+-- entries whose path uses it, and a number is held if an entry has it. The rules below are by these books.
 
 -- the network that a request sees: a link is usable if its free units are at least the units asked for. Distance, x and
 -- both problems are this network's.
-abbrev pub seen : Ledger → Request → Net
-seen l r = net (books l) (r .units)
+abbrev pub seen : Books → Request → Net
+seen o r = net o (r .units)
 
 -- ---- which answers it allows
 -- the rules before the search, in the order given for each call; the area is always well formed, so 5 is not among them
-abbrev pub checks : Ledger → Call ℕ → List Rule
-checks l (quoting work room r) = requestRules (books l) work room r
-checks l (admitting work room c r) = requestRules (books l) work room r ++ numberRules (books l) c
-checks l (releasing c) = releaseRules (books l) c
+abbrev pub checks : Books → Call ℕ → List Rule
+checks o (quoting work room r) = requestRules o work room r
+checks o (admitting work room c r) = requestRules o work room r ++ numberRules o c
+checks o (releasing c) = releaseRules o c
 
 -- those of the search: 9 and 10
-abbrev pub searches : Ledger → Call ℕ → List Rule
-searches l (quoting work room r) = searchRules (seen l r) r
-searches l (admitting work room c r) = searchRules (seen l r) r
-searches l (releasing c) = []
+abbrev pub searches : Books → Call ℕ → List Rule
+searches o (quoting work room r) = searchRules (seen o r) r
+searches o (admitting work room c r) = searchRules (seen o r) r
+searches o (releasing c) = []
 
-abbrev pub rules : Ledger → Call ℕ → List Rule
-rules l q = checks l q ++ searches l q
+abbrev pub rules : Books → Call ℕ → List Rule
+rules o q = checks o q ++ searches o q
 
 -- k is the number of the first rule that applies
 abbrev pub FirstApplies : List Rule → ℕ → Type 0
@@ -71,14 +71,14 @@ FirstApplies [] k = ⊥
 FirstApplies (r ∷ rs) k = (r .applies × (k ≡ r .number)) ⊎ ((r .applies → ⊥) × FirstApplies rs k)
 
 -- the ledger refuses a call with k
-abbrev pub Refuses : Ledger → Call ℕ → ℕ → Type 0
-Refuses l q k = FirstApplies (rules l q) k
+abbrev pub Refuses : Books → Call ℕ → ℕ → Type 0
+Refuses o q k = FirstApplies (rules o q) k
 
 -- what an answer must be where it is no refusal
-abbrev pub Grants : Ledger → Call ℕ → Reply → Type 0
-Grants l (quoting work room r) a = Grant (seen l r) r a
-Grants l (admitting work room c r) a = Grant (seen l r) r a
-Grants l (releasing c) a = a ≡ releases
+abbrev pub Grants : Books → Call ℕ → Reply → Type 0
+Grants o (quoting work room r) a = Grant (seen o r) r a
+Grants o (admitting work room c r) a = Grant (seen o r) r a
+Grants o (releasing c) a = a ≡ releases
 
 -- ---- how the entries move
 abbrev pub entry : ℕ → Request → List ℕ → Circuit

@@ -9,6 +9,7 @@ use Rattle.network.specs.Net.{Net, IsPath}
 use Rattle.network.specs.Problem.{Solves, Distance}
 use Rattle.network.specs.Reduce.{one, two, Enough}
 use Rattle.network.specs.declared.Request.{Request}
+use Rattle.area.specs.Books.{Books, books}
 use Rattle.booking.specs.Replies.{Reply, refuses, grants}
 use Rattle.booking.specs.Rules.{Rule}
 use Rattle.ledger.specs.Ledger.{Call, quoting, admitting, releasing, told, Ledger, seen, moved}
@@ -40,13 +41,13 @@ module _ (g : Net) (r : Request) where
   abbrev pub Overqualifies : Type 0
   Overqualifies = (k : ℕ) × AtDistance k × ((p : List ℕ) × IsPath g (r .source) (r .target) p × Enough g r k p)
 
--- P holds at every place of a list: of the ledger as it stands there, the call and its answer
-abbrev pub AtEvery : (Ledger → Call ℕ → Reply → Type 0) → Ledger → List Event → Type 0
+-- P holds at every place of a list: of the ledger's books as they stand there, the call and its answer
+abbrev pub AtEvery : (Books → Call ℕ → Reply → Type 0) → Ledger → List Event → Type 0
 AtEvery P l [] = Unit
-AtEvery P l (e ∷ es) = P l (e .call) (e .reply) × AtEvery P (moved l (e .call) (told (e .call) (e .reply))) es
+AtEvery P l (e ∷ es) = P (books l) (e .call) (e .reply) × AtEvery P (moved l (e .call) (told (e .call) (e .reply))) es
 
 -- P holds where a call is a quote or an admission: of the network that its request sees, the request and the answer
-abbrev pub OfRequest : (Net → Request → Reply → Type 0) → Ledger → Call ℕ → Reply → Type 0
-OfRequest P l (quoting work room r) a = P (seen l r) r a
-OfRequest P l (admitting work room c r) a = P (seen l r) r a
-OfRequest P l (releasing c) a = Unit
+abbrev pub OfRequest : (Net → Request → Reply → Type 0) → Books → Call ℕ → Reply → Type 0
+OfRequest P o (quoting work room r) a = P (seen o r) r a
+OfRequest P o (admitting work room c r) a = P (seen o r) r a
+OfRequest P o (releasing c) a = Unit
