@@ -1,4 +1,5 @@
--- The third demand, and beside it the second, as claims about a whole list of calls from a freshly loaded area.
+-- The third demand, and beside it the second, as claims about a whole list of calls from a freshly loaded area. What
+-- stands in quotation marks is the demand's own sentence; docs/CLAIMS.md goes through document 01's as well.
 -- Assumes nothing.
 use Prim.Native.Nat.{ℕ}
 use mathlib.Core.Path.{_≡_}
@@ -18,30 +19,13 @@ use Rattle.ledger.specs.Ledger.{Call, opened, checks, Refuses, Grants}
 use Rattle.ledger.specs.History.{Lending, history, answers, areaAtEnd, bookings, atEnd, Struck, remaining}
 use Rattle.ledger.specs.Sentences.{IsRefused, IsGranted, Passes, Solvable, Overqualifies, AtEvery, OfRequest}
 
--- what the second demand says of a path p that problem k granted a request, answered with the totals d and x
-pub record GrantedPath (g : Net) (r : Request) (k d x : ℕ) (p : List ℕ) : Type 0 where
-  -- it runs from source to destination, by usable links that follow one another
-  pub runs : Walk g (r .source) (r .target) p
-  -- it passes no node twice
-  pub once : Distinct (nodesOf g (r .source) p)
-  -- it meets both original bounds
-  pub bounds : WithinBounds g r p
-  -- it has the least kept weight among all solutions of the problem that granted it; two grants only where one has none
-  pub least : ((k ≡ 1) × GrantedByOne g r p) ⊎ ((k ≡ 2) × GrantedByTwo g r p)
-  -- its totals are its links' sums
-  pub delay : d ≡ sum (g .delay) p
-  pub cost : x ≡ sum (g .cost) p
-
--- and of an answer: every path that it grants is such a path
-abbrev pub PathsGranted : Net → Request → Reply → Type 0
-PathsGranted g r a = (k d x : ℕ) (p : List ℕ) → a ≡ grants k d x p → GrantedPath g r k d x p
-
+-- ---- the third demand
 -- From the area that Load leaves of w, with n and the links, the calls cs run one after another.
 module _ (w : List ℕ) (n : ℕ) (links : List ℕ) (cs : List Lending) where
   abbrev start : List ℕ
   start = areaLoaded w n links
 
-  -- P holds at every place of the list, where the ledger opens with the same numbers
+  -- P holds at every place of the list, beside a ledger that opens with the same numbers
   abbrev pub Throughout : (Books → Call ℕ → Reply → Type 0) → Type 0
   Throughout P = AtEvery P (opened n links) (history start cs)
 
@@ -64,6 +48,25 @@ module _ (w : List ℕ) (n : ℕ) (links : List ℕ) (cs : List Lending) where
         → (answers (areaLoaded v n links) ds ≡ remaining s (answers start cs))
         × Same (bookings (areaAtEnd (areaLoaded v n links) ds)) (bookings (areaAtEnd start cs))
 
-  -- every path granted at any place of the list
-  abbrev pub SecondDemand : Type 0
-  SecondDemand = Throughout (OfRequest PathsGranted)
+-- ---- the second demand
+-- what the second demand says of a path p that problem k granted a request, answered with the totals d and x
+pub record GrantedPath (g : Net) (r : Request) (k d x : ℕ) (p : List ℕ) : Type 0 where
+  -- it runs from source to destination, by usable links that follow one another
+  pub runs : Walk g (r .source) (r .target) p
+  -- it passes no node twice
+  pub once : Distinct (nodesOf g (r .source) p)
+  -- it meets both original bounds
+  pub bounds : WithinBounds g r p
+  -- it has the least kept weight among all solutions of the problem that granted it, which is two only where one has none
+  pub least : ((k ≡ 1) × GrantedByOne g r p) ⊎ ((k ≡ 2) × GrantedByTwo g r p)
+  -- its totals are its links' sums
+  pub delay : d ≡ sum (g .delay) p
+  pub cost : x ≡ sum (g .cost) p
+
+-- and of an answer: every path that it grants is such a path
+abbrev pub PathsGranted : Net → Request → Reply → Type 0
+PathsGranted g r a = (k d x : ℕ) (p : List ℕ) → a ≡ grants k d x p → GrantedPath g r k d x p
+
+-- every path granted at any place of the list
+abbrev pub SecondDemand : List ℕ → ℕ → List ℕ → List Lending → Type 0
+SecondDemand w n links cs = Throughout w n links cs (OfRequest PathsGranted)
