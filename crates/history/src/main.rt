@@ -6,7 +6,17 @@
 // A line is the call's row, its name, and then problem, delay, cost and links; or 0 and the refusal's number; or
 // released. After the calls come the held circuits as they stand in the area, each with its units and its links, and
 // then each link's free units.
+//
+// The contracts tie the program to that crate's theorem: each run leaves the area that the history of its calls leaves,
+// and so `both_runs` ensures that the bookings are the same.
+ghost use mathlib.Core.Path.{_≡_};
 ghost use Prim.Native.Nat.{_<_, _≤_};
+ghost use Rattle.area.specs.Order.{Same};
+ghost use Rattle.station.specs.declared.Loading.the-variants.{Loaded};
+ghost use Rattle.station.specs.Load.{loadAnswer, areaLoaded};
+ghost use Rattle.booking.specs.Replies.{answerOf, pathAfter};
+ghost use Rattle.ledger.specs.History.{replyTo, areaAfter, areaAtEnd, bookings};
+ghost use Rattle.history.specs.Calls.{netA, isQuote, requestOf, callOf, workLent, pathLent, rubbish, filler, lent, callAt, calls};
 use area::layout;
 use booking::Answer;
 use booking::calls;
@@ -132,7 +142,9 @@ fn show(answer: Answer, filler: u32, path: &[u32]) {
 }
 
 // Whether a call of this kind is a quote.
-fn is_quote(kind: u32) -> bool {
+fn is_quote(kind: u32) -> bool
+    ensures { λ r. ⌜ r ≡ isQuote kind ⌝ }
+{
     kind == QUOTE || kind == SHORT_PATH
 }
 
@@ -148,30 +160,36 @@ fn show_name(kind: u32) {
 
 // How many words of work memory a call of this kind is lent.
 fn work_lent(kind: u32) -> usize
-    ensures { λ r. ⌜ r ≤ 16384 ⌝ }
+    ensures { λ r. ⌜ (r ≡ workLent kind) × (r ≤ 16384) ⌝ }
 {
     if kind == SHORT_WORK { 8 } else { 16384 }
 }
 
 // How long a path buffer a call of this kind is lent.
 fn path_lent(kind: u32) -> usize
-    ensures { λ r. ⌜ r ≤ 31 ⌝ }
+    ensures { λ r. ⌜ (r ≡ pathLent kind) × (r ≤ 31) ⌝ }
 {
     if kind == SHORT_PATH { 30 } else { 31 }
 }
 
 // Every word of work memory before a call, another at each call and in each run. In the first run a search that trusts
 // it would take it for nodes, links and small weights.
-fn rubbish(struck: bool, row: u32) -> u32 {
+fn rubbish(struck: bool, row: u32) -> u32
+    ensures { λ r. ⌜ r ≡ rubbish struck row ⌝ }
+{
     if struck { 4294967295 - row } else { row }
 }
 
 // Every word of the path buffer before a call.
-fn path_filler(struck: bool) -> u32 {
+fn path_filler(struck: bool) -> u32
+    ensures { λ r. ⌜ r ≡ filler struck ⌝ }
+{
     if struck { 98 } else { 99 }
 }
 
-fn request(row: [u32; 8]) -> Request {
+fn request(row: [u32; 8]) -> Request
+    ensures { λ r. ⌜ r ≡ requestOf row ⌝ }
+{
     Request {
         source: row[2],
         target: row[3],
@@ -182,8 +200,12 @@ fn request(row: [u32; 8]) -> Request {
     }
 }
 
-// What the call of a row answers.
-fn answered(area: &mut [u32; 3459], work: &mut [u32], path: &mut [u32], row: [u32; 8]) -> Answer {
+// What the call of a row answers. It leaves the path in the path buffer, and the area as the history has it.
+fn answered(area: &mut [u32; 3459], work: &mut [u32], path: &mut [u32], row: [u32; 8]) -> Answer
+    ensures answer { λ a. ⌜ a ≡ answerOf (replyTo (now (area .entry)) (callOf row (now (work .entry)) (now (path .entry)))) ⌝ }
+    ensures path { λ _. ⌜ now (path .exit) ≡ pathAfter (replyTo (now (area .entry)) (callOf row (now (work .entry)) (now (path .entry)))) (now (path .entry)) ⌝ }
+    ensures area { λ _. ⌜ now (area .exit) ≡ areaAfter (now (area .entry)) (callOf row (now (work .entry)) (now (path .entry))) ⌝ }
+{
     let kind = row[0];
     let circuit = row[1];
     if is_quote(kind) {
@@ -203,7 +225,9 @@ fn call(
     filler: u32,
     k: u32,
     row: [u32; 8],
-) {
+)
+    ensures area { λ _. ⌜ now (area .exit) ≡ areaAfter (now (area .entry)) (callOf row (now (work .entry)) (now (path .entry))) ⌝ }
+{
     number(k);
     show_name(row[0]);
     let answer = answered(area, work, path, row);
@@ -211,7 +235,9 @@ fn call(
 }
 
 // Fills work memory and path buffer, and lends as many of their words as the row's kind is lent.
-fn lend_and_call(struck: bool, area: &mut [u32; 3459], k: u32, row: [u32; 8]) {
+fn lend_and_call(struck: bool, area: &mut [u32; 3459], k: u32, row: [u32; 8])
+    ensures { λ _. ⌜ now (area .exit) ≡ areaAfter (now (area .entry)) (lent struck k row) ⌝ }
+{
     let filler = path_filler(struck);
     let mut work: [u32; 16384] = [rubbish(struck, k); 16384];
     let mut path: [u32; 31] = [filler; 31];
@@ -223,6 +249,7 @@ fn lend_and_call(struck: bool, area: &mut [u32; 3459], k: u32, row: [u32; 8]) {
 // The call of row `k`, unless it is a quote and quotes are struck. The loop over the list counts its 25 rows.
 fn unless_struck(struck: bool, area: &mut [u32; 3459], k: u32)
     requires { ⌜ k < 25 ⌝ }
+    ensures { λ _. ⌜ now (area .exit) ≡ areaAtEnd (now (area .entry)) (callAt struck k) ⌝ }
 {
     let row = ROWS[link::wide(k)];
     if struck && is_quote(row[0]) {
@@ -231,14 +258,20 @@ fn unless_struck(struck: bool, area: &mut [u32; 3459], k: u32)
     lend_and_call(struck, area, k, row);
 }
 
-fn every_call(struck: bool, area: &mut [u32; 3459]) {
+// The calls of the whole list.
+fn every_call(struck: bool, area: &mut [u32; 3459])
+    ensures { λ _. ⌜ now (area .exit) ≡ areaAtEnd (now (area .entry)) (calls struck) ⌝ }
+{
     for k in 0..25 {
         unless_struck(struck, area, k);
     }
 }
 
-// Loads net A.
-fn load_net(area: &mut [u32; 3459]) {
+// Loads net A, which every area of this length takes.
+fn load_net(area: &mut [u32; 3459])
+    ensures accepted { λ _. ⌜ loadAnswer (now (area .entry)) 4 netA ≡ Loaded ⌝ }
+    ensures area { λ _. ⌜ now (area .exit) ≡ areaLoaded (now (area .entry)) 4 netA ⌝ }
+{
     let links = NET_A;
     let loading = load(4, &links, area);
     match loading {
@@ -311,18 +344,29 @@ fn every_free(area: &[u32; 3459]) {
 }
 
 // The list from a load on, and what is then held and free.
-fn run(struck: bool, area: &mut [u32; 3459]) {
+fn run(struck: bool, area: &mut [u32; 3459])
+    ensures accepted { λ _. ⌜ loadAnswer (now (area .entry)) 4 netA ≡ Loaded ⌝ }
+    ensures area { λ _. ⌜ now (area .exit) ≡ areaAtEnd (areaLoaded (now (area .entry)) 4 netA) (calls struck) ⌝ }
+{
     load_net(area);
     every_call(struck, area);
     circuits_held(area);
     every_free(area);
 }
 
+// Both runs, each on an area of its own. By the theorem of the crate `ledger` they leave the same bookings, whatever the
+// areas held.
+fn both_runs(first: &mut [u32; 3459], second: &mut [u32; 3459])
+    ensures { λ _. ⌜ Same (bookings (now (second .exit))) (bookings (now (first .exit))) ⌝ }
+{
+    run(false, first);
+    text(b"quotes struck\n");
+    run(true, second);
+}
+
 // Before it is loaded, the second area seems to hold seven circuits with number 7.
 fn main() {
     let mut first: [u32; 3459] = [88; 3459];
     let mut second: [u32; 3459] = [7; 3459];
-    run(false, &mut first);
-    text(b"quotes struck\n");
-    run(true, &mut second);
+    both_runs(&mut first, &mut second);
 }

@@ -1,0 +1,2 @@
+pub mod CallCases
+pub mod Runs
