@@ -1,2 +1,3 @@
 pub mod CallCases
 pub mod Runs
+pub mod Answers

@@ -10,6 +10,7 @@
 // The contracts tie the program to that crate's theorem: each run leaves the area that the history of its calls leaves,
 // and so `both_runs` ensures that the bookings are the same.
 ghost use mathlib.Core.Path.{_≡_};
+ghost use mathlib.Core.Bool.{true, false};
 ghost use Prim.Native.Nat.{_<_, _≤_};
 ghost use Rattle.area.specs.Order.{Same};
 ghost use Rattle.station.specs.declared.Loading.the-variants.{Loaded};
@@ -357,7 +358,9 @@ fn run(struck: bool, area: &mut [u32; 3459])
 // Both runs, each on an area of its own. By the theorem of the crate `ledger` they leave the same bookings, whatever the
 // areas held.
 fn both_runs(first: &mut [u32; 3459], second: &mut [u32; 3459])
-    ensures { λ _. ⌜ Same (bookings (now (second .exit))) (bookings (now (first .exit))) ⌝ }
+    ensures first { λ _. ⌜ now (first .exit) ≡ areaAtEnd (areaLoaded (now (first .entry)) 4 netA) (calls false) ⌝ }
+    ensures second { λ _. ⌜ now (second .exit) ≡ areaAtEnd (areaLoaded (now (second .entry)) 4 netA) (calls true) ⌝ }
+    ensures same { λ _. ⌜ Same (bookings (now (second .exit))) (bookings (now (first .exit))) ⌝ }
 {
     run(false, first);
     text(b"quotes struck\n");

@@ -1,10 +1,11 @@
 -- Any quotes of a list may be struck: whichever are chosen, the rest is the list with quotes struck.
 -- Assumes nothing.
-use mathlib.Core.Path.{refl}
+use Prim.Native.Nat.{ℕ}
+use mathlib.Core.Path.{_≡_, refl, ap}
 use mathlib.Core.Bool.{Bool, true, false}
 use mathlib.Core.List.{List, [], _∷_}
 use Rattle.ledger.specs.Ledger.{quoting, admitting, releasing}
-use Rattle.ledger.specs.History.{Lending, Struck, end, strike, keep}
+use Rattle.ledger.specs.History.{Lending, replyTo, areaAfter, buffer, Given, given, answers, Struck, end, strike, keep, remaining}
 
 -- the calls of a list without the quotes that were chosen, one choice for each call; past the choices all remain
 abbrev chosen : List Bool → List Lending → List Lending
@@ -22,3 +23,13 @@ any-quotes (true ∷ choices) (quoting work room r ∷ cs) = strike (any-quotes 
 any-quotes (false ∷ choices) (quoting work room r ∷ cs) = keep refl (any-quotes choices cs)
 any-quotes (b ∷ choices) (admitting work room c r ∷ cs) = keep refl (any-quotes choices cs)
 any-quotes (b ∷ choices) (releasing c ∷ cs) = keep refl (any-quotes choices cs)
+
+-- where none is struck, all remain
+pub none-struck : (cs : List Lending) → Struck cs cs
+none-struck [] = end
+none-struck (c ∷ cs) = keep refl (none-struck cs)
+
+pub all-remain : (w : List ℕ) (cs : List Lending) → remaining (none-struck cs) (answers w cs) ≡ answers w cs
+unfolding none-struck
+all-remain w [] = refl
+all-remain w (c ∷ cs) = ap (λ (l : List Given). given (buffer c) (replyTo w c) ∷ l) (all-remain (areaAfter w c) cs)

@@ -20,9 +20,14 @@ run-requires-2 c κs = search needs
 returns : tie.Need-returns
 returns c =
     let first = c .before .before .before .before in
-    let a = first .before .before .args in
-    same-bookings (a .first .now) (a .second .now) (first .run .last .1 .0) (c .run2 .last .1 .0)
-    (first .run .ensures .0) (c .run2 .ensures .0) (first .run .ensures .1) (c .run2 .ensures .1)
+    let a = first .before .before .args in (
+      first .run .ensures .1,
+      (
+        c .run2 .ensures .1,
+        same-bookings (a .first .now) (a .second .now) (first .run .last .1 .0) (c .run2 .last .1 .0)
+            (first .run .ensures .0) (c .run2 .ensures .0) (first .run .ensures .1) (c .run2 .ensures .1),
+      ),
+    )
 
 pub both-runs-spec : {M : Type 1} → statement M
 both-runs-spec =

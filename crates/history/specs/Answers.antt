@@ -1,0 +1,66 @@
+-- The answers to the list of calls and the bookings at its end, as docs/history.md calculates them by hand.
+-- Assumes nothing.
+use Prim.Native.Nat.{ℕ}
+use mathlib.Core.List.{List, [], _∷_}
+use lib.ListN.{length}
+use Rattle.area.specs.Station.{Circuit}
+use Rattle.booking.specs.declared.Answer.the-variants.{Refused, Granted, Released}
+use Rattle.ledger.specs.History.{Given}
+
+abbrev refused : ℕ → Given
+refused k = record { numbers = Refused k; words = [] }
+
+abbrev granted : ℕ → ℕ → ℕ → List ℕ → Given
+granted k d x p = record { numbers = Granted (record { problem = k; delay = d; cost = x; links = length p }); words = p }
+
+abbrev released : Given
+released = record { numbers = Released; words = [] }
+
+-- by the three links, and by link 3
+abbrev three : List ℕ
+three = 0 ∷ 1 ∷ 2 ∷ []
+
+abbrev byThree : ℕ → Given
+byThree k = granted k 6 15 three
+
+abbrev byLink3 : Given
+byLink3 = granted 1 9 1 (3 ∷ [])
+
+abbrev pub expected : List Given
+expected =
+    -- rows 0 to 9
+    byThree 1
+    ∷ byThree 1
+    ∷ byThree 1
+    ∷ refused 10
+    ∷ refused 11
+    ∷ refused 11
+    ∷ byLink3
+    ∷ refused 9
+    ∷ byThree 1
+    ∷ refused 10
+    -- rows 10 to 17
+    ∷ released
+    ∷ byThree 1
+    ∷ refused 13
+    ∷ byThree 2
+    ∷ refused 10
+    ∷ refused 6
+    ∷ refused 7
+    ∷ refused 8
+    -- rows 18 to 24
+    ∷ granted 1 4 10 (1 ∷ 2 ∷ [])
+    ∷ refused 10
+    ∷ refused 9
+    ∷ released
+    ∷ byLink3
+    ∷ byLink3
+    ∷ refused 11
+    ∷ []
+
+abbrev circuit : ℕ → ℕ → List ℕ → Circuit
+circuit c u p = record { number = c; units = u; path = p }
+
+-- the last admitted first
+abbrev pub held : List Circuit
+held = circuit 8 10 (3 ∷ []) ∷ circuit 65535 2 (1 ∷ 2 ∷ []) ∷ circuit 7 2 three ∷ circuit 9 6 three ∷ []
