@@ -83,10 +83,13 @@ areaAtEnd w (c ∷ cs) = areaAtEnd (areaAfter w c) cs
 abbrev pub bookings : List ℕ → List Circuit
 bookings w = station w .held
 
--- the ledger after a list
+-- the ledger after a call and its reply, and after a list of them
+abbrev pub after : Ledger → Event → Ledger
+after l e = moved l (e .call) (told (e .call) (e .reply))
+
 abbrev pub atEnd : Ledger → List Event → Ledger
 atEnd l [] = l
-atEnd l (e ∷ es) = atEnd (moved l (e .call) (told (e .call) (e .reply))) es
+atEnd l (e ∷ es) = atEnd (after l e) es
 
 -- ---- quotes struck
 -- ds is cs with some of its quotes struck, no matter which. A call that remains has the same numbers and is lent as many

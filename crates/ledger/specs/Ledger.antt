@@ -41,8 +41,9 @@ Ledger = Station
 abbrev pub opened : ℕ → List ℕ → Ledger
 opened n links = record { table = tableOf n links; held = [] }
 
--- What the rules ask of the entries is in their `books`: a link's free units are its capacity minus the units of all
--- entries whose path uses it, and a number is held if an entry has it. The rules below are by these books.
+-- What the rules ask of the entries is in their `books`, which the crate `area` defines: a link's free units are its
+-- capacity minus the units of all entries whose path uses it, and a number is held if an entry has it. The rules below
+-- are by these books.
 
 -- the network that a request sees: a link is usable if its free units are at least the units asked for. Distance, x and
 -- both problems are this network's.

@@ -12,8 +12,8 @@ use Rattle.network.specs.declared.Request.{Request}
 use Rattle.area.specs.Books.{Books, books}
 use Rattle.booking.specs.Replies.{Reply, refuses, grants}
 use Rattle.booking.specs.Rules.{Rule}
-use Rattle.ledger.specs.Ledger.{Call, quoting, admitting, releasing, told, Ledger, seen, moved}
-use Rattle.ledger.specs.History.{Event}
+use Rattle.ledger.specs.Ledger.{Call, quoting, admitting, releasing, Ledger, seen}
+use Rattle.ledger.specs.History.{Event, after}
 
 abbrev pub IsRefused : Reply → Type 0
 IsRefused a = (k : ℕ) × (a ≡ refuses k)
@@ -44,7 +44,7 @@ module _ (g : Net) (r : Request) where
 -- P holds at every place of a list: of the ledger's books as they stand there, the call and its answer
 abbrev pub AtEvery : (Books → Call ℕ → Reply → Type 0) → Ledger → List Event → Type 0
 AtEvery P l [] = Unit
-AtEvery P l (e ∷ es) = P (books l) (e .call) (e .reply) × AtEvery P (moved l (e .call) (told (e .call) (e .reply))) es
+AtEvery P l (e ∷ es) = P (books l) (e .call) (e .reply) × AtEvery P (after l e) es
 
 -- P holds where a call is a quote or an admission: of the network that its request sees, the request and the answer
 abbrev pub OfRequest : (Net → Request → Reply → Type 0) → Books → Call ℕ → Reply → Type 0

@@ -1,10 +1,10 @@
--- `history::work_lent` meets its contract, by the kind.
+-- `history::kinds::work_lent` meets its contract, by the kind.
 -- Assumes nothing.
 use native.Mathlib.Omega.{arith}
 use borrow.Author.Tests.{eq-eqb, ne-eqb}
 use Rattle.history.specs.Calls.{workLent}
-use Rattle.history.proofs.work_lent.Statement.{statement}
-use Rattle.history.proofs.work_lent.Tie as tie
+use Rattle.history.proofs.kinds.work_lent.Statement.{statement}
+use Rattle.history.proofs.kinds.work_lent.Tie as tie
 
 returns : tie.Need-returns
 unfolding workLent

@@ -1,4 +1,4 @@
--- `history::unless_struck` meets its contract: the row that it reads is the list's, and it is passed over just where it is a
+-- `history::list::unless_struck` meets its contract: the row that it reads is the list's, and it is passed over just where it is a
 -- quote and quotes are struck.
 -- Assumes nothing.
 use mathlib.Core.Path.{sym, _∙_}
@@ -6,8 +6,8 @@ use mathlib.Core.Logic.{inl, inr, ⊎-elim}
 use borrow.Author.Needs.{needs}
 use Rattle.history.specs.Calls.{rows}
 use Rattle.history.proofs.CallCases.{skipped, called}
-use Rattle.history.proofs.unless_struck.Statement.{statement}
-use Rattle.history.proofs.unless_struck.Tie as tie
+use Rattle.history.proofs.list.unless_struck.Statement.{statement}
+use Rattle.history.proofs.list.unless_struck.Tie as tie
 
 wide-requires : tie.Need-wide-requires
 wide-requires c κs = search needs

@@ -1,9 +1,9 @@
--- `history::every_free` ends.
+-- `history::bookings::every_free` ends.
 -- Assumes nothing.
 use Prim.Native.Nat.{_-_, _≤_}
 use borrow.Author.Needs.{needs}
-use Rattle.history.proofs.every_free.Statement.{statement}
-use Rattle.history.proofs.every_free.Tie as tie
+use Rattle.history.proofs.bookings.every_free.Statement.{statement}
+use Rattle.history.proofs.bookings.every_free.Tie as tie
 
 abbrev Inv-loop : tie.InvT-loop
 Inv-loop area i₀ i = i ≤ 4

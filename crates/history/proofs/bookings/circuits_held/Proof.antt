@@ -1,9 +1,9 @@
--- `history::circuits_held` ends, and each place that it asks for is one of the area's.
+-- `history::bookings::circuits_held` ends, and each place that it asks for is one of the area's.
 -- Assumes nothing.
 use Prim.Native.Nat.{_-_, _≤_}
 use borrow.Author.Needs.{needs}
-use Rattle.history.proofs.circuits_held.Statement.{statement}
-use Rattle.history.proofs.circuits_held.Tie as tie
+use Rattle.history.proofs.bookings.circuits_held.Statement.{statement}
+use Rattle.history.proofs.bookings.circuits_held.Tie as tie
 
 abbrev Inv-loop : tie.InvT-loop
 Inv-loop area j₀ j = j ≤ 64

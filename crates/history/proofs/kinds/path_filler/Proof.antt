@@ -1,8 +1,8 @@
--- `history::path_filler` meets its contract, by the run.
+-- `history::kinds::path_filler` meets its contract, by the run.
 -- Assumes nothing.
 use Rattle.history.specs.Calls.{filler}
-use Rattle.history.proofs.path_filler.Statement.{statement}
-use Rattle.history.proofs.path_filler.Tie as tie
+use Rattle.history.proofs.kinds.path_filler.Statement.{statement}
+use Rattle.history.proofs.kinds.path_filler.Tie as tie
 
 returns : tie.Need-returns
 unfolding filler

@@ -1,10 +1,10 @@
--- `history::answered` meets its contract: each kind's call, by what the call itself ensures.
+-- `history::list::answered` meets its contract: each kind's call, by what the call itself ensures.
 -- Assumes nothing.
 use mathlib.Core.Path.{sym, _∙_}
 use borrow.Author.Needs.{needs}
 use Rattle.history.proofs.CallCases.{quoted, released, admitted}
-use Rattle.history.proofs.answered.Statement.{statement}
-use Rattle.history.proofs.answered.Tie as tie
+use Rattle.history.proofs.list.answered.Statement.{statement}
+use Rattle.history.proofs.list.answered.Tie as tie
 
 array-read-kind : tie.Need-array-read-kind
 array-read-kind c = search needs

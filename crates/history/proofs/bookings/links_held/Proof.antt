@@ -1,9 +1,9 @@
--- `history::links_held` ends, and each path word that it asks for is one of the circuit's.
+-- `history::bookings::links_held` ends, and each path word that it asks for is one of the circuit's.
 -- Assumes nothing.
 use Prim.Native.Nat.{_-_, _≤_}
 use borrow.Author.Needs.{needs}
-use Rattle.history.proofs.links_held.Statement.{statement}
-use Rattle.history.proofs.links_held.Tie as tie
+use Rattle.history.proofs.bookings.links_held.Statement.{statement}
+use Rattle.history.proofs.bookings.links_held.Tie as tie
 
 abbrev Inv-loop : tie.InvT-loop
 Inv-loop area at k₀ k = k ≤ 31

@@ -1,9 +1,9 @@
--- `history::rubbish` meets its contract, by the run.
+-- `history::kinds::rubbish` meets its contract, by the run.
 -- Assumes nothing.
 use borrow.Author.Needs.{needs}
 use Rattle.history.specs.Calls.{rubbish}
-use Rattle.history.proofs.rubbish.Statement.{statement}
-use Rattle.history.proofs.rubbish.Tie as tie
+use Rattle.history.proofs.kinds.rubbish.Statement.{statement}
+use Rattle.history.proofs.kinds.rubbish.Tie as tie
 
 sub-result : tie.Need-sub-result
 sub-result c = search needs

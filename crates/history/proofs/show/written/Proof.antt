@@ -1,10 +1,10 @@
--- `history::written` ends and reads within the path buffer.
+-- `history::show::written` ends and reads within the path buffer.
 -- Assumes nothing.
 use Prim.Native.Nat.{_-_, _≤_}
 use borrow.Author.Needs.{needs}
 use lib.ListN.{length}
-use Rattle.history.proofs.written.Statement.{statement}
-use Rattle.history.proofs.written.Tie as tie
+use Rattle.history.proofs.show.written.Statement.{statement}
+use Rattle.history.proofs.show.written.Tie as tie
 
 abbrev Inv-loop : tie.InvT-loop
 Inv-loop filler path i₀ i-end i = i-end ≤ length path

@@ -1,12 +1,12 @@
--- `history::lend_and_call` meets its contract: the parts that it lends are the words that the row's kind is lent, since no kind
+-- `history::list::lend_and_call` meets its contract: the parts that it lends are the words that the row's kind is lent, since no kind
 -- is lent more than the whole.
 -- Assumes nothing.
 use mathlib.Core.Path.{sym}
 use lib.Seq.{length-take-le}
 use borrow.Author.Needs.{needs}
 use Rattle.history.proofs.CallCases.{work-as, path-as, lent-as}
-use Rattle.history.proofs.lend_and_call.Statement.{statement}
-use Rattle.history.proofs.lend_and_call.Tie as tie
+use Rattle.history.proofs.list.lend_and_call.Statement.{statement}
+use Rattle.history.proofs.list.lend_and_call.Tie as tie
 
 path-filler-requires : tie.Need-path-filler-requires
 path-filler-requires c κs = search needs

@@ -1,10 +1,10 @@
--- `history::path_lent` meets its contract, by the kind.
+-- `history::kinds::path_lent` meets its contract, by the kind.
 -- Assumes nothing.
 use native.Mathlib.Omega.{arith}
 use borrow.Author.Tests.{eq-eqb, ne-eqb}
 use Rattle.history.specs.Calls.{pathLent}
-use Rattle.history.proofs.path_lent.Statement.{statement}
-use Rattle.history.proofs.path_lent.Tie as tie
+use Rattle.history.proofs.kinds.path_lent.Statement.{statement}
+use Rattle.history.proofs.kinds.path_lent.Tie as tie
 
 returns : tie.Need-returns
 unfolding pathLent

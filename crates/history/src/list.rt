@@ -1,0 +1,137 @@
+// The list of calls, and each of them made and printed.
+ghost use mathlib.Core.Path.{_≡_};
+ghost use Prim.Native.Nat.{_<_};
+ghost use Rattle.booking.specs.Replies.{answerOf, pathAfter};
+ghost use Rattle.ledger.specs.History.{replyTo, areaAfter, areaAtEnd};
+ghost use Rattle.history.specs.Calls.{requestOf, callOf, lent, callAt, calls};
+use crate::kinds;
+use crate::kinds::ADMISSION;
+use crate::kinds::QUOTE;
+use crate::kinds::RELEASE;
+use crate::kinds::SHORT_PATH;
+use crate::kinds::SHORT_WORK;
+use crate::show;
+use booking::Answer;
+use booking::calls;
+use network::Request;
+use network::link;
+
+// The list of calls. A row is kind, circuit number, source, target, units, delay bound, cost bound and coefficient; a
+// number that plays no part is 0.
+const ROWS: [[u32; 8]; 25] = [
+    [QUOTE, 0, 0, 3, 1, 8, 20, 8],
+    [ADMISSION, 7, 0, 3, 4, 8, 20, 8],
+    [QUOTE, 0, 0, 3, 6, 8, 20, 8],
+    [QUOTE, 0, 0, 3, 7, 8, 20, 8],
+    [ADMISSION, 7, 0, 3, 1, 8, 20, 8],
+    [ADMISSION, 0, 0, 3, 1, 8, 20, 8],
+    [ADMISSION, 8, 0, 3, 7, 9, 20, 8],
+    [QUOTE, 0, 0, 3, 7, 9, 20, 8],
+    [ADMISSION, 9, 0, 3, 6, 8, 20, 8],
+    [QUOTE, 0, 0, 3, 1, 8, 20, 8],
+    [RELEASE, 7, 0, 0, 0, 0, 0, 0],
+    [QUOTE, 0, 0, 3, 4, 8, 20, 8],
+    [RELEASE, 7, 0, 0, 0, 0, 0, 0],
+    [ADMISSION, 7, 0, 3, 2, 8, 15, 8],
+    [QUOTE, 0, 0, 3, 3, 8, 20, 8],
+    [SHORT_WORK, 10, 0, 3, 1, 8, 20, 8],
+    [SHORT_PATH, 0, 0, 3, 1, 8, 20, 8],
+    [QUOTE, 0, 0, 0, 1, 8, 20, 8],
+    [ADMISSION, 65535, 1, 3, 2, 4, 10, 8],
+    [QUOTE, 0, 0, 3, 1, 8, 20, 8],
+    [QUOTE, 0, 1, 2, 1, 8, 20, 8],
+    [RELEASE, 8, 0, 0, 0, 0, 0, 0],
+    [QUOTE, 0, 0, 3, 10, 9, 1, 1],
+    [ADMISSION, 8, 0, 3, 10, 9, 1, 1],
+    [ADMISSION, 65536, 0, 3, 1, 9, 1, 1],
+];
+
+fn show_name(kind: u32) {
+    if kinds::is_quote(kind) {
+        show::text(b" quote ");
+    } else if kind == RELEASE {
+        show::text(b" release ");
+    } else {
+        show::text(b" admission ");
+    }
+}
+
+fn request(row: [u32; 8]) -> Request
+    ensures { λ r. ⌜ r ≡ requestOf row ⌝ }
+{
+    Request {
+        source: row[2],
+        target: row[3],
+        units: row[4],
+        delay_bound: row[5],
+        cost_bound: row[6],
+        coefficient: row[7],
+    }
+}
+
+// What the call of a row answers. It leaves the path in the path buffer, and the area as the history has it.
+fn answered(area: &mut [u32; 3459], work: &mut [u32], path: &mut [u32], row: [u32; 8]) -> Answer
+    ensures answer { λ a. ⌜ a ≡ answerOf (replyTo (now (area .entry)) (callOf row (now (work .entry)) (now (path .entry)))) ⌝ }
+    ensures path { λ _. ⌜ now (path .exit) ≡ pathAfter (replyTo (now (area .entry)) (callOf row (now (work .entry)) (now (path .entry)))) (now (path .entry)) ⌝ }
+    ensures area { λ _. ⌜ now (area .exit) ≡ areaAfter (now (area .entry)) (callOf row (now (work .entry)) (now (path .entry))) ⌝ }
+{
+    let kind = row[0];
+    let circuit = row[1];
+    if kinds::is_quote(kind) {
+        return calls::quote(area, work, path, request(row));
+    }
+    if kind == RELEASE {
+        return calls::release(area, circuit);
+    }
+    calls::admit(area, work, path, circuit, request(row))
+}
+
+// Makes the call of row `k` with this work memory and path buffer, and prints its line.
+fn call(
+    area: &mut [u32; 3459],
+    work: &mut [u32],
+    path: &mut [u32],
+    filler: u32,
+    k: u32,
+    row: [u32; 8],
+)
+    ensures area { λ _. ⌜ now (area .exit) ≡ areaAfter (now (area .entry)) (callOf row (now (work .entry)) (now (path .entry))) ⌝ }
+{
+    show::number(k);
+    show_name(row[0]);
+    let answer = answered(area, work, path, row);
+    show::show(answer, filler, path);
+}
+
+// Fills work memory and path buffer, and lends as many of their words as the row's kind is lent.
+fn lend_and_call(struck: bool, area: &mut [u32; 3459], k: u32, row: [u32; 8])
+    ensures { λ _. ⌜ now (area .exit) ≡ areaAfter (now (area .entry)) (lent struck k row) ⌝ }
+{
+    let filler = kinds::path_filler(struck);
+    let mut work: [u32; 16384] = [kinds::rubbish(struck, k); 16384];
+    let mut path: [u32; 31] = [filler; 31];
+    let w = kinds::work_lent(row[0]);
+    let p = kinds::path_lent(row[0]);
+    call(area, &mut work[..w], &mut path[..p], filler, k, row);
+}
+
+// The call of row `k`, unless it is a quote and quotes are struck. The loop over the list counts its 25 rows.
+fn unless_struck(struck: bool, area: &mut [u32; 3459], k: u32)
+    requires { ⌜ k < 25 ⌝ }
+    ensures { λ _. ⌜ now (area .exit) ≡ areaAtEnd (now (area .entry)) (callAt struck k) ⌝ }
+{
+    let row = ROWS[link::wide(k)];
+    if struck && kinds::is_quote(row[0]) {
+        return;
+    }
+    lend_and_call(struck, area, k, row);
+}
+
+// The calls of the whole list.
+pub fn every_call(struck: bool, area: &mut [u32; 3459])
+    ensures { λ _. ⌜ now (area .exit) ≡ areaAtEnd (now (area .entry)) (calls struck) ⌝ }
+{
+    for k in 0..25 {
+        unless_struck(struck, area, k);
+    }
+}
