@@ -40,7 +40,7 @@ fn circuit_held(area: &[u32; 3459], j: usize)
 }
 
 // The bookings, read from the area's words: no call tells a circuit's units and path.
-pub fn circuits_held(area: &[u32; 3459]) {
+pub(crate) fn circuits_held(area: &[u32; 3459]) {
     for j in 0..64 {
         circuit_held(area, j);
     }
@@ -53,7 +53,7 @@ fn free(area: &[u32; 3459], link: u32) {
     show::show_reading(reads::free_units(area, link));
 }
 
-pub fn every_free(area: &[u32; 3459]) {
+pub(crate) fn every_free(area: &[u32; 3459]) {
     for i in 0..4 {
         free(area, i);
     }

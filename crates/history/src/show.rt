@@ -3,21 +3,21 @@ use booking::Answer;
 use route::Grant;
 use station::Reading;
 
-pub fn text(words: &[u8]) {
+pub(crate) fn text(words: &[u8]) {
     io::write_all(1, words);
 }
 
-pub fn number(n: u32) {
+pub(crate) fn number(n: u32) {
     io::print_decimal(1, n as u64);
 }
 
 // A space and a number.
-pub fn field(n: u32) {
+pub(crate) fn field(n: u32) {
     text(b" ");
     number(n);
 }
 
-pub fn refused(k: u32) {
+pub(crate) fn refused(k: u32) {
     text(b"0");
     field(k);
 }
@@ -42,7 +42,7 @@ fn granted(g: Grant, filler: u32, path: &[u32]) {
     written(filler, path);
 }
 
-pub fn show(answer: Answer, filler: u32, path: &[u32]) {
+pub(crate) fn show(answer: Answer, filler: u32, path: &[u32]) {
     match answer {
         Answer::Refused(k) => refused(k),
         Answer::Granted(g) => granted(g, filler, path),
@@ -51,7 +51,7 @@ pub fn show(answer: Answer, filler: u32, path: &[u32]) {
     text(b"\n");
 }
 
-pub fn show_reading(r: Reading) {
+pub(crate) fn show_reading(r: Reading) {
     match r {
         Reading::Refused(k) => refused(k),
         Reading::Value(v) => number(v),
