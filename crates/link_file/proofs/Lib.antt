@@ -1,0 +1,4 @@
+-- The laws of the link file.
+pub mod Words
+pub mod ReadCases
+pub mod Accepted

@@ -1,0 +1,39 @@
+-- What a link file is: the bytes that stand one after another in it. The reader is proved to take exactly such files.
+-- Assumes nothing.
+use Prim.Native.Nat.{ℕ, _*_, _/_, _%_, _^_, _≤_, _<_}
+use mathlib.Core.Path.{_≡_}
+use mathlib.Core.List.{List, [], _∷_, _++_}
+use lib.ListN.{length}
+
+-- a word as its four bytes, the low byte first
+abbrev pub bytesOf : ℕ → List ℕ
+bytesOf w = w % 256 ∷ w / 256 % 256 ∷ w / 256 ^ 2 % 256 ∷ w / 256 ^ 3 % 256 ∷ []
+
+-- words one after another
+unfoldable pub bytesOfAll : List ℕ → List ℕ
+bytesOfAll [] = []
+bytesOfAll (w ∷ ws) = bytesOf w ++ bytesOfAll ws
+
+-- RTLK
+abbrev pub letters : List ℕ
+letters = 82 ∷ 84 ∷ 76 ∷ 75 ∷ []
+
+-- the byte offset of the first record, m, n and the letters
+abbrev pub trailer : ℕ → ℕ → ℕ → List ℕ
+trailer offset m n = bytesOf offset ++ bytesOf m ++ bytesOf n ++ letters
+
+-- every number of the list is below a bound
+abbrev pub AllBelow : ℕ → List ℕ → Type 0
+AllBelow b [] = Unit {0}
+AllBelow b (x ∷ xs) = (x < b) × AllBelow b xs
+
+-- free notes, the records of m links, five words each, and the trailer
+pub record LinkFile (n m : ℕ) (words notes : List ℕ) : Type 0 where
+  pub few : m ≤ 256
+  pub five : length words ≡ 5 * m
+  pub wordsFit : AllBelow (2 ^ 32) words
+  pub nodesFit : n < 2 ^ 32
+  pub offsetFits : length notes < 2 ^ 32
+
+abbrev pub linkFile : ℕ → ℕ → List ℕ → List ℕ → List ℕ
+linkFile n m words notes = notes ++ bytesOfAll words ++ trailer (length notes) m n

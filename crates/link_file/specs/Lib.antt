@@ -1,0 +1,2 @@
+pub mod Format
+pub mod Reading

@@ -1,0 +1,58 @@
+// The link-file reader of document 01: free notes, then link records of 20 bytes, then a trailer of 16 bytes that says
+// where the first record begins, how many there are, and how many nodes.
+//
+// The reader takes anything: any bytes, a table of any length. It checks in document 01's order and refuses by the first
+// number that applies; a refusal changes nothing.
+ghost use mathlib.Core.Path.{_≡_};
+ghost use lib.ListN.{length};
+ghost use Rattle.link_file.specs.Reading.{readAnswer, tableRead};
+
+mod records;
+mod word;
+
+use network::link;
+use records::read_records;
+use word::is_signed;
+use word::word;
+
+// What the trailer says of the table: n and m.
+pub struct Size {
+    pub nodes: u32,
+    pub links: u32,
+}
+
+// What the reader answers: document 01's number, or n and m.
+pub enum Reading {
+    Refused(u32),
+    Table(Size),
+}
+
+// 17, 18 and 19 in this order; else n and m, and the records' words stand in the first 5 m words of `table`, whose other
+// words keep theirs. A usize has 64 bits, so the sum of the offset and the records' bytes is exact.
+pub fn read(file: &[u8], table: &mut [u32]) -> Reading
+    ensures answer { λ a. ⌜ a ≡ readAnswer (now (file .entry)) (length (now (table .entry))) ⌝ }
+    ensures table { λ _. ⌜ now (table .exit) ≡ tableRead (now (file .entry)) (now (table .entry)) ⌝ }
+{
+    if !is_signed(file) {
+        return Reading::Refused(17);
+    }
+    let end = file.len();
+    let links = word(file, end - 12);
+    let m = link::wide(links);
+    if 256 < m {
+        return Reading::Refused(18);
+    }
+    let offset = link::wide(word(file, end - 16));
+    if offset + 20 * m + 16 != end {
+        return Reading::Refused(18);
+    }
+    if table.len() < 5 * m {
+        return Reading::Refused(19);
+    }
+    read_records(&file[offset..], m, table);
+    let nodes = word(file, end - 8);
+    Reading::Table(Size {
+        nodes: nodes,
+        links: links,
+    })
+}

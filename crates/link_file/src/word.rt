@@ -1,0 +1,41 @@
+// A word of the file, and the letters at its end.
+ghost use mathlib.Core.Path.{_≡_};
+ghost use Prim.Native.Nat.{_+_, _<_, _≤_};
+ghost use lib.ListN.{length};
+ghost use Rattle.link_file.specs.Reading.{wordAt, signed};
+
+fn wide(byte: u8) -> u32
+    ensures { λ r. ⌜ (r ≡ byte) × (r < 256) ⌝ }
+{
+    byte as u32
+}
+
+// The word of four bytes from `at` on, the low byte first. The callers have checked the length.
+pub(crate) fn word(bytes: &[u8], at: usize) -> u32
+    requires { ⌜ at + 4 ≤ length (now bytes) ⌝ }
+    ensures { λ r. ⌜ r ≡ wordAt (now (bytes .entry)) at ⌝ }
+{
+    let low = wide(bytes[at]) + 256 * wide(bytes[at + 1]);
+    let high = wide(bytes[at + 2]) + 256 * wide(bytes[at + 3]);
+    low + 65536 * high
+}
+
+// Whether the file is long enough for a trailer and ends with the letters RTLK.
+pub(crate) fn is_signed(file: &[u8]) -> bool
+    ensures { λ r. ⌜ r ≡ signed (now (file .entry)) ⌝ }
+{
+    let end = file.len();
+    if end < 16 {
+        return false;
+    }
+    if file[end - 4] != b'R' {
+        return false;
+    }
+    if file[end - 3] != b'T' {
+        return false;
+    }
+    if file[end - 2] != b'L' {
+        return false;
+    }
+    file[end - 1] == b'K'
+}
