@@ -2,10 +2,10 @@
 -- Assumes nothing.
 use mathlib.Core.Path.{_≡_, ap, _∙_, sym}
 use mathlib.Core.Bool.{true, _&&_}
-use mathlib.Core.List.{List, _++_}
+use mathlib.Core.List.{List, [], _++_}
 use Prim.Native.Nat.{ℕ, _+_, _*_, _≤_}
 use native.Mathlib.Omega.{arith}
-use borrow.Author.Tests.{leb-true, eqb-true}
+use borrow.Author.Tests.{le-leb, leb-true, eqb-true}
 use lib.Dec.{leb, eqb}
 use lib.ListN.{length, drop}
 use Rattle.network.proofs.Tests.{fst-of, snd-of}
@@ -15,6 +15,7 @@ use Rattle.link_file.specs.declared.Size.{Size}
 use Rattle.link_file.specs.declared.Reading.{Reading}
 use Rattle.link_file.specs.declared.Reading.the-variants.{Refused, Table}
 use Rattle.link_file.specs.Reading.{signed, fills, offsetIn, linksIn, nodesIn, recordWords, readChecks, readAnswer, tableRead}
+use Rattle.link_file.proofs.ReadCases.{filled}
 use Rattle.link_file.proofs.Words.{words-length}
 
 pub records-length : (f : List ℕ) → length (recordWords f) ≡ 5 * linksIn f
@@ -32,6 +33,10 @@ sizeOf (Refused k) = record { nodes = 0; links = 0 }
 sizeOf (Table s) = s
 
 module _ (f : List ℕ) (room : ℕ) where
+  pub accepts : Accepted f room → readAnswer f room ≡ Table (record { nodes = nodesIn f; links = linksIn f })
+  unfolding readAnswer
+  accepts a = simp (a .trailer, filled f [] (a .trailer) (a .few) (a .whole), le-leb (5 * linksIn f) room (a .enough))
+
   checks-said : pass (readChecks f room) ≡ true → Accepted f room
   unfolding fills
   checks-said ok =

@@ -2,3 +2,5 @@
 pub mod Words
 pub mod ReadCases
 pub mod Accepted
+pub mod Bytes
+pub mod LinkFiles

@@ -40,7 +40,7 @@ module _ (f t : List ℕ) where
       not-filled h = wrong-size (simp (le-leb (linksIn f) 256 few, ne-eqb (offsetIn f + 20 * linksIn f + 16) (length f) h))
 
       module _ (whole : offsetIn f + 20 * linksIn f + 16 ≡ length f) where
-        filled : fills f ≡ true
+        pub filled : fills f ≡ true
         unfolding fills
         filled = simp (le-leb (linksIn f) 256 few, eq-eqb (offsetIn f + 20 * linksIn f + 16) (length f) whole)
 

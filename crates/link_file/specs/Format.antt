@@ -1,4 +1,5 @@
--- What a link file is: the bytes that stand one after another in it. The reader is proved to take exactly such files.
+-- What a link file is: the bytes that stand one after another in it. The reader is proved to take exactly these files,
+-- where the table has room.
 -- Assumes nothing.
 use Prim.Native.Nat.{ℕ, _*_, _/_, _%_, _^_, _≤_, _<_}
 use mathlib.Core.Path.{_≡_}
@@ -7,7 +8,7 @@ use lib.ListN.{length}
 
 -- a word as its four bytes, the low byte first
 abbrev pub bytesOf : ℕ → List ℕ
-bytesOf w = w % 256 ∷ w / 256 % 256 ∷ w / 256 ^ 2 % 256 ∷ w / 256 ^ 3 % 256 ∷ []
+bytesOf w = w % 256 ∷ w / 256 % 256 ∷ w / 65536 % 256 ∷ w / 16777216 % 256 ∷ []
 
 -- words one after another
 unfoldable pub bytesOfAll : List ℕ → List ℕ
@@ -22,18 +23,18 @@ letters = 82 ∷ 84 ∷ 76 ∷ 75 ∷ []
 abbrev pub trailer : ℕ → ℕ → ℕ → List ℕ
 trailer offset m n = bytesOf offset ++ bytesOf m ++ bytesOf n ++ letters
 
--- every number of the list is below a bound
+-- every number of a list is below a bound
 abbrev pub AllBelow : ℕ → List ℕ → Type 0
 AllBelow b [] = Unit {0}
 AllBelow b (x ∷ xs) = (x < b) × AllBelow b xs
 
 -- free notes, the records of m links, five words each, and the trailer
-pub record LinkFile (n m : ℕ) (words notes : List ℕ) : Type 0 where
+pub record LinkFile (n m : ℕ) (words file : List ℕ) : Type 0 where
+  pub notes : List ℕ
+  pub laid : file ≡ notes ++ bytesOfAll words ++ trailer (length notes) m n
   pub few : m ≤ 256
   pub five : length words ≡ 5 * m
+  -- a word is a 32-bit unsigned number
   pub wordsFit : AllBelow (2 ^ 32) words
   pub nodesFit : n < 2 ^ 32
   pub offsetFits : length notes < 2 ^ 32
-
-abbrev pub linkFile : ℕ → ℕ → List ℕ → List ℕ → List ℕ
-linkFile n m words notes = notes ++ bytesOfAll words ++ trailer (length notes) m n

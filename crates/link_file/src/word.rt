@@ -1,6 +1,6 @@
 // A word of the file, and the letters at its end.
 ghost use mathlib.Core.Path.{_≡_};
-ghost use Prim.Native.Nat.{_+_, _<_, _≤_};
+ghost use Prim.Native.Nat.{_+_, _*_, _<_, _≤_};
 ghost use lib.ListN.{length};
 ghost use Rattle.link_file.specs.Reading.{wordAt, signed};
 
@@ -10,13 +10,20 @@ fn wide(byte: u8) -> u32
     byte as u32
 }
 
+// Two bytes as a number, the low byte first.
+fn half(low: u8, high: u8) -> u32
+    ensures { λ r. ⌜ (r ≡ low + 256 * high) × (r < 65536) ⌝ }
+{
+    wide(low) + 256 * wide(high)
+}
+
 // The word of four bytes from `at` on, the low byte first. The callers have checked the length.
 pub(crate) fn word(bytes: &[u8], at: usize) -> u32
     requires { ⌜ at + 4 ≤ length (now bytes) ⌝ }
     ensures { λ r. ⌜ r ≡ wordAt (now (bytes .entry)) at ⌝ }
 {
-    let low = wide(bytes[at]) + 256 * wide(bytes[at + 1]);
-    let high = wide(bytes[at + 2]) + 256 * wide(bytes[at + 3]);
+    let low = half(bytes[at], bytes[at + 1]);
+    let high = half(bytes[at + 2], bytes[at + 3]);
     low + 65536 * high
 }
 
