@@ -13,6 +13,7 @@ use borrow.Author.Tests.{ltb-true, lt-ltb, le-ltb, eqb-true}
 use Rattle.network.specs.Lists.{All, memb, Distinct}
 use Rattle.network.specs.Loops.{first}
 use Rattle.network.proofs.Loops.{first-passes}
+use Rattle.network.proofs.Stored.{from-length}
 use Rattle.network.proofs.Tests.{by-eq}
 use Rattle.area.specs.Station.{circuitOf, circuitAt, circuits}
 use Rattle.area.specs.Books.{numbers, holds}
@@ -70,10 +71,6 @@ numbers-once w (suc h) once i j low low' apart same =
     (λ q. numbers-once w h (once .1) i j (omega arith) (omega arith) apart same))
 
 -- ---- the listing
-pub listed-length : (w : List ℕ) (j n : ℕ) → length (numbersFrom w j n) ≡ n
-listed-length w j zero = refl
-listed-length w j (suc n) = ap suc (listed-length w (suc j) n)
-
 or-swap : (a b c : Bool) → (a || (b || c)) ≡ (b || (a || c))
 or-swap true true c = refl
 or-swap true false c = refl
@@ -111,4 +108,4 @@ listed-once w h once =
 -- a listing of circuits whose numbers differ means what document 01 says
 pub listing-means : (w : List ℕ) (h : ℕ) → Distinct (numbers (circuits w h)) → ListsHeld (circuits w h) (numbersFrom w 0 h)
 listing-means w h once =
-    record { count = listed-length w 0 h ∙ sym (held-length w h); held = listed-held w h; once = listed-once w h once }
+    record { count = from-length (numberAt w) 0 h ∙ sym (held-length w h); held = listed-held w h; once = listed-once w h once }

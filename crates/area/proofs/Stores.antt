@@ -1,34 +1,15 @@
 -- One turn of each loop that stores, and its end: what the loop has yet to do, done from here, comes to the same. And what
 -- the stores of an admission and of a release come to.
 -- Assumes nothing.
-use mathlib.Core.Path.{_≡_, _∙_}
-use mathlib.Core.List.{List, _++_}
+use mathlib.Core.Path.{_≡_}
+use mathlib.Core.List.{List}
 use Prim.Native.Nat.{ℕ, zero, suc, _+_, _-_, _*_, _≤_, _<_}
-use native.Mathlib.Nat.{add-zero, zero-add, sub-zero}
 use native.Mathlib.Numerals.{add-one, towards-suc}
 use native.Mathlib.Omega.{arith}
-use lib.ListN.{length, getD, set, drop, drop-of-length-le}
-use lib.Seq.{sets, drop-cons, sets-eq}
+use lib.ListN.{length, getD, set}
+use lib.Seq.{sets}
 use Rattle.area.specs.Station.{Circuit, place}
-use Rattle.area.specs.Held.{numbersFrom}
 use Rattle.area.specs.Moves.{added, closed, removed}
-use Rattle.area.proofs.Found.{listed-length}
-
--- ---- a list stored from a place on
--- before the first turn all is left to store
-pub put-none : (w words : List ℕ) (at : ℕ) → sets w (at + 0) (drop 0 words) ≡ sets w at words
-put-none w words at = rw add-zero
-
--- the loop of `layout::put` stores word i at at + i
-pub put-turn : (w words : List ℕ) (at i : ℕ) → i < length words
-    → sets (set w (at + i) (getD words i 0)) (at + (i + 1)) (drop (i + 1) words) ≡ sets w (at + i) (drop i words)
-put-turn w words at i h =
-    let e : at + (i + 1) ≡ suc (at + i) = omega arith in
-    rw (e, add-one, drop-cons words i 0 h)
-
--- nothing is left to store
-pub put-end : (w words : List ℕ) (at i : ℕ) → length words ≤ i → w ≡ sets w at (drop i words)
-put-end w words at i h = rw (drop-of-length-le words {i = i} h)
 
 -- ---- words moved up by a circuit's length
 -- the loop of `store::close` overwrites word i
@@ -44,30 +25,6 @@ unfolding closed
 close-end w i end h =
     let e : end - i ≡ zero = omega arith in
     rw e
-
--- ---- the numbers of circuits, stored from the first word on
--- before the first turn all are left to store
-pub number-none : (w l : List ℕ) (h : ℕ) → sets l 0 (numbersFrom w 0 (h - 0)) ≡ sets l 0 (numbersFrom w 0 h)
-number-none w l h = rw sub-zero
-
--- the loop of `reads::write_numbers` stores circuit j's number, which stands at its place
-pub number-turn : (w l : List ℕ) (j h at : ℕ) → j < h → at ≡ place j
-    → sets (set l j (getD w at 0)) (j + 1) (numbersFrom w (j + 1) (h - (j + 1))) ≡ sets l j (numbersFrom w j (h - j))
-number-turn w l j h at low e =
-    let d : h - j ≡ suc (h - (j + 1)) = omega arith in
-    rw (e, d, add-one)
-
--- nothing is left to store
-pub number-end : (w l : List ℕ) (j h : ℕ) → h ≤ j → l ≡ sets l j (numbersFrom w j (h - j))
-number-end w l j h high =
-    let e : h - j ≡ zero = omega arith in
-    rw e
-
--- the numbers stand in front, and the words past them keep theirs
-pub numbers-stored : (w l : List ℕ) (h : ℕ) → h ≤ length l → sets l 0 (numbersFrom w 0 h) ≡ numbersFrom w 0 h ++ drop h l
-numbers-stored w l h fits =
-    let n : length (numbersFrom w 0 h) ≡ h = listed-length w 0 h in
-    sets-eq (numbersFrom w 0 h) l 0 (omega arith) ∙ rw (n, zero-add)
 
 -- ---- the stores of an admission and of a release
 -- a circuit's words, its path and the count, one store after the other

@@ -1,11 +1,11 @@
 -- The numbers of held circuits, by their places.
 -- Assumes nothing.
-use Prim.Native.Nat.{ℕ, zero, suc}
+use Prim.Native.Nat.{ℕ}
 use mathlib.Core.Path.{_≡_}
-use mathlib.Core.List.{List, [], _∷_}
+use mathlib.Core.List.{List}
 use lib.Dec.{eqb}
 use lib.ListN.{length, getD}
-use Rattle.network.specs.Lists.{memb, Distinct}
+use Rattle.network.specs.Lists.{memb, Distinct, from}
 use Rattle.network.specs.Loops.{first}
 use Rattle.area.specs.Station.{Circuit, place}
 use Rattle.area.specs.Books.{holds}
@@ -20,8 +20,7 @@ foundAt w h c = first (λ j. eqb c (numberAt w j)) h
 
 -- the numbers of n circuits from place j on. Document 01 leaves the order open; here it is that of the places.
 abbrev pub numbersFrom : List ℕ → ℕ → ℕ → List ℕ
-numbersFrom w j zero = []
-numbersFrom w j (suc n) = numberAt w j ∷ numbersFrom w (suc j) n
+numbersFrom w j n = from (numberAt w) j n
 
 -- what a listing means, whatever its order: as many numbers as circuits, the held ones and no other, each once
 pub record ListsHeld (cs : List Circuit) (ns : List ℕ) : Type 0 where

@@ -1,13 +1,14 @@
 -- An accepted file: what the checks have said of it, and the words that then stand in the table.
 -- Assumes nothing.
-use mathlib.Core.Path.{_≡_, ap, _∙_, sym}
-use mathlib.Core.Bool.{true, _&&_}
+use mathlib.Core.Path.{_≡_, sym, ap}
+use mathlib.Core.Bool.{true}
 use mathlib.Core.List.{List, [], _++_}
 use Prim.Native.Nat.{ℕ, _+_, _*_, _≤_}
 use native.Mathlib.Omega.{arith}
 use borrow.Author.Tests.{le-leb, leb-true, eqb-true}
-use lib.Dec.{leb, eqb}
+use lib.Dec.{leb}
 use lib.ListN.{length, drop}
+use Rattle.network.proofs.Stored.{from-length}
 use Rattle.network.proofs.Tests.{fst-of, snd-of}
 use Rattle.area.specs.Checks.{pass}
 use Rattle.area.proofs.Checks.{all-pass}
@@ -16,11 +17,10 @@ use Rattle.link_file.specs.declared.Reading.{Reading}
 use Rattle.link_file.specs.declared.Reading.the-variants.{Refused, Table}
 use Rattle.link_file.specs.Reading.{signed, fills, offsetIn, linksIn, nodesIn, recordWords, readChecks, readAnswer, tableRead}
 use Rattle.link_file.proofs.ReadCases.{filled}
-use Rattle.link_file.proofs.Words.{words-length}
 
 pub records-length : (f : List ℕ) → length (recordWords f) ≡ 5 * linksIn f
 unfolding recordWords
-records-length f = words-length _ 0 (5 * linksIn f)
+records-length f = from-length _ 0 (5 * linksIn f)
 
 pub record Accepted (f : List ℕ) (room : ℕ) : Type 0 where
   pub trailer : signed f ≡ true

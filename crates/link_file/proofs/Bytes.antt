@@ -41,7 +41,6 @@ word-left b d i =
 
 -- words behind a first word
 words-behind : (x y z w : ℕ) (b : List ℕ) (i k : ℕ) → wordsFrom (x ∷ y ∷ z ∷ w ∷ b) (suc i) k ≡ wordsFrom b i k
-unfolding wordsFrom
 words-behind x y z w b i zero = refl
 words-behind x y z w b i (suc k) =
     let e : 4 * suc i ≡ 4 + 4 * i = omega arith in
@@ -49,7 +48,7 @@ words-behind x y z w b i (suc k) =
 
 -- the words that were put are read
 pub words-of-bytes : (ws rest : List ℕ) → AllBelow (2 ^ 32) ws → wordsFrom (bytesOfAll ws ++ rest) 0 (length ws) ≡ ws
-unfolding wordsFrom bytesOfAll wordAt
+unfolding bytesOfAll wordAt
 words-of-bytes [] rest fit = refl
 words-of-bytes (w ∷ ws) rest fit =
     ap₂ {C = List ℕ} _∷_ (word-of-bytes w (fit .0)) (words-behind _ _ _ _ (bytesOfAll ws ++ rest) 0 (length ws) ∙ words-of-bytes ws rest (fit .1))
@@ -73,7 +72,7 @@ bytes-of-word x y z w a b c d =
 
 -- a list of bytes begins with the bytes of the words read from it
 pub bytes-of-words : (k : ℕ) (b : List ℕ) → 4 * k ≤ length b → AllBelow 256 b → b ≡ bytesOfAll (wordsFrom b 0 k) ++ drop (4 * k) b
-unfolding wordsFrom bytesOfAll wordAt
+unfolding bytesOfAll wordAt
 bytes-of-words zero b long bytes = refl
 bytes-of-words (suc k) [] long bytes = absurd (omega arith)
 bytes-of-words (suc k) (x ∷ []) long bytes = absurd (omega arith)
@@ -106,7 +105,6 @@ word-fits b i bytes =
     omega (arith, byte-below b i bytes, byte-below b (i + 1) bytes, byte-below b (i + 2) bytes, byte-below b (i + 3) bytes)
 
 pub words-fit : (b : List ℕ) (i k : ℕ) → AllBelow 256 b → AllBelow (2 ^ 32) (wordsFrom b i k)
-unfolding wordsFrom
 words-fit b i zero bytes = tt
 words-fit b i (suc k) bytes = (word-fits b (4 * i) bytes, words-fit b (suc i) k bytes)
 

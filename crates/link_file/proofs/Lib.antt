@@ -1,5 +1,4 @@
 -- The laws of the link file.
-pub mod Words
 pub mod ReadCases
 pub mod Accepted
 pub mod Bytes

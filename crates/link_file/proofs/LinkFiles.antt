@@ -3,7 +3,7 @@
 -- Assumes nothing.
 use mathlib.Core.Path.{_≡_, refl, sym, ap, ap₂, subst, _∙_}
 use mathlib.Core.Bool.{true}
-use mathlib.Core.List.{List, [], _∷_, _++_, append-assoc, append-nil}
+use mathlib.Core.List.{List, [], _∷_, _++_, append-assoc}
 use Prim.Native.Nat.{ℕ, _+_, _*_, _-_, _^_, _≤_, _<_}
 use native.Mathlib.Omega.{arith}
 use borrow.Author.Tests.{le-leb, eq-eqb, eqb-true}
@@ -16,7 +16,6 @@ use Rattle.link_file.specs.declared.Reading.the-variants.{Table}
 use Rattle.link_file.specs.Format.{bytesOf, bytesOfAll, letters, trailer, AllBelow, LinkFile}
 use Rattle.link_file.specs.Reading.{wordAt, wordsFrom, fromEnd, lettersLast, signed, offsetIn, linksIn, nodesIn, recordWords, readAnswer}
 use Rattle.link_file.proofs.Bytes.{word-of-bytes, word-behind, word-left, words-of-bytes, bytes-of-words, bytes-left, word-fits, words-fit, bytes-length}
-use Rattle.link_file.proofs.ReadCases.{signed-long}
 use Rattle.link_file.proofs.Accepted.{Accepted, accepts, records-length, read-accepted, size-read}
 
 -- ---- what is laid out as a link file
@@ -58,12 +57,13 @@ module _ (front : List ℕ) (o m n : ℕ) where
       let e2 : length whole - 2 ≡ length front + 14 = omega (arith, whole-long) in
       let e1 : length whole - 1 ≡ length front + 15 = omega (arith, whole-long) in
       let long : 16 ≤ length whole = omega (arith, whole-long) in
-      simp
-      (le-leb 16 (length whole) long,
-      eq-eqb (fromEnd whole 4) 82 (letter-laid 4 12 e4),
-      eq-eqb (fromEnd whole 3) 84 (letter-laid 3 13 e3),
-      eq-eqb (fromEnd whole 2) 76 (letter-laid 2 14 e2),
-      eq-eqb (fromEnd whole 1) 75 (letter-laid 1 15 e1))
+      simp (
+        le-leb 16 (length whole) long,
+        eq-eqb (fromEnd whole 4) 82 (letter-laid 4 12 e4),
+        eq-eqb (fromEnd whole 3) 84 (letter-laid 3 13 e3),
+        eq-eqb (fromEnd whole 2) 76 (letter-laid 2 14 e2),
+        eq-eqb (fromEnd whole 1) 75 (letter-laid 1 15 e1),
+      )
 
 module _ (n m : ℕ) (words notes : List ℕ) (few : m ≤ 256) (five : length words ≡ 5 * m) (offset-fits : length notes < 2 ^ 32) where
   abbrev laid : List ℕ
@@ -148,7 +148,7 @@ module _ (f : List ℕ) (bytes : AllBelow 256 f) (s : signed f ≡ true) (d : �
       at i back e = getD-drop 12 (drop d f) i 0 ∙ getD-drop d f (12 + i) 0 ∙ ap (λ (k : ℕ). getD f k 0) e
 
   last-trailer : drop d f ≡ trailer (offsetIn f) (linksIn f) (nodesIn f)
-  unfolding bytesOfAll wordsFrom
+  unfolding bytesOfAll
   last-trailer =
       bytes-of-words 3 (drop d f) (omega (arith, last-long)) (bytes-left f d bytes)
       ∙ λ t. bytesOf (word 0 16 (omega arith) t) ++ bytesOf (word 4 12 (omega arith) t) ++ bytesOf (word 8 8 (omega arith) t) ++ last-letters t

@@ -5,6 +5,7 @@ use Prim.Native.Nat.{ℕ, _*_, _/_, _%_, _^_, _≤_, _<_}
 use mathlib.Core.Path.{_≡_}
 use mathlib.Core.List.{List, [], _∷_, _++_}
 use lib.ListN.{length}
+use Rattle.network.specs.Lists.{All}
 
 -- a word as its four bytes, the low byte first
 abbrev pub bytesOf : ℕ → List ℕ
@@ -25,8 +26,7 @@ trailer offset m n = bytesOf offset ++ bytesOf m ++ bytesOf n ++ letters
 
 -- every number of a list is below a bound
 abbrev pub AllBelow : ℕ → List ℕ → Type 0
-AllBelow b [] = Unit {0}
-AllBelow b (x ∷ xs) = (x < b) × AllBelow b xs
+AllBelow b xs = All (λ x. x < b) xs
 
 -- free notes, the records of m links, five words each, and the trailer
 pub record LinkFile (n m : ℕ) (words file : List ℕ) : Type 0 where

@@ -1,12 +1,12 @@
 -- What the reader answers, and the table after. Its contract cites these definitions.
 -- Assumes nothing.
-use Prim.Native.Nat.{ℕ, zero, suc, _+_, _*_, _-_}
+use Prim.Native.Nat.{ℕ, _+_, _*_, _-_}
 use mathlib.Core.Bool.{Bool, cond, _&&_}
 use mathlib.Core.List.{List, [], _∷_, _++_}
 use lib.Dec.{leb, eqb}
 use lib.ListN.{length, getD, drop}
+use Rattle.network.specs.Lists.{from}
 use Rattle.area.specs.Checks.{Check, _unless_, checked, pass}
-use Rattle.link_file.specs.declared.Size.{Size}
 use Rattle.link_file.specs.declared.Reading.{Reading}
 use Rattle.link_file.specs.declared.Reading.the-variants.{Refused, Table}
 
@@ -15,9 +15,8 @@ unfoldable pub wordAt : List ℕ → ℕ → ℕ
 wordAt b i = getD b i 0 + 256 * getD b (i + 1) 0 + 65536 * (getD b (i + 2) 0 + 256 * getD b (i + 3) 0)
 
 -- k words one after another, from word i on
-unfoldable pub wordsFrom : List ℕ → ℕ → ℕ → List ℕ
-wordsFrom b i zero = []
-wordsFrom b i (suc k) = wordAt b (4 * i) ∷ wordsFrom b (suc i) k
+abbrev pub wordsFrom : List ℕ → ℕ → ℕ → List ℕ
+wordsFrom b i k = from (λ j. wordAt b (4 * j)) i k
 
 -- the byte that stands so many places before the end
 abbrev pub fromEnd : List ℕ → ℕ → ℕ

@@ -8,3 +8,4 @@ pub mod Few
 pub mod Short
 pub mod Cut
 pub mod Bounds
+pub mod Stored

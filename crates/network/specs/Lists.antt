@@ -1,6 +1,6 @@
 -- Small functions on tests and lists that the other files share.
 -- Assumes nothing.
-use Prim.Native.Nat.{ℕ}
+use Prim.Native.Nat.{ℕ, zero, suc}
 use mathlib.Core.Path.{_≡_}
 use mathlib.Core.Bool.{Bool, true, false, not, _&&_, _||_}
 use mathlib.Core.List.{List, [], _∷_}
@@ -24,3 +24,8 @@ Distinct (a ∷ l) = All (λ b. a ≡ b → ⊥) l × Distinct l
 abbrev pub distinctb : List ℕ → Bool
 distinctb [] = true
 distinctb (a ∷ l) = not (memb a l) && distinctb l
+
+-- what a function gives for n numbers from i on
+abbrev pub from : (ℕ → ℕ) → ℕ → ℕ → List ℕ
+from f i zero = []
+from f i (suc n) = f i ∷ from f (suc i) n

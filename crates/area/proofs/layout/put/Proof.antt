@@ -6,7 +6,7 @@ use native.Mathlib.Omega.{arith}
 use borrow.Author.Needs.{needs}
 use lib.ListN.{length, drop, length-set}
 use lib.Seq.{sets}
-use Rattle.area.proofs.Stores.{put-none, put-turn, put-end}
+use Rattle.network.proofs.Stored.{put-none, put-turn, put-end}
 use Rattle.area.proofs.layout.put.Statement.{statement}
 use Rattle.area.proofs.layout.put.Tie as tie
 

@@ -1,13 +1,13 @@
 -- `station::reads::write_numbers` meets its contract: what is still to store, stored from here, comes to the same.
 -- Assumes nothing.
-use mathlib.Core.Path.{_≡_, refl, _∙_}
-use Prim.Native.Nat.{_-_, _≤_}
+use mathlib.Core.Path.{_≡_, refl, ap, _∙_}
+use Prim.Native.Nat.{ℕ, _-_, _≤_}
 use native.Mathlib.Omega.{arith}
 use borrow.Author.Needs.{needs}
-use lib.ListN.{length, length-set}
+use lib.ListN.{length, getD, length-set}
 use lib.Seq.{sets}
-use Rattle.area.specs.Held.{numbersFrom}
-use Rattle.area.proofs.Stores.{number-none, number-turn, number-end, numbers-stored}
+use Rattle.area.specs.Held.{numberAt, numbersFrom}
+use Rattle.network.proofs.Stored.{from-none, from-turn, from-end, from-stored}
 use Rattle.station.proofs.reads.write_numbers.Statement.{statement}
 use Rattle.station.proofs.reads.write_numbers.Tie as tie
 
@@ -18,7 +18,7 @@ abbrev μ-loop : tie.MeasureT-loop
 μ-loop area h numbers₀ j₀ numbers j = h - j
 
 loop-holds : tie.Need-loop-holds Inv-loop μ-loop
-loop-holds c = let a = c .before .before .args in (number-none (a .area .now) (a .numbers .now) (a .h), refl, search needs)
+loop-holds c = let a = c .before .before .args in (from-none (numberAt (a .area .now)) (a .numbers .now) (a .h), refl, search needs)
 
 place-requires : tie.Need-place-requires Inv-loop μ-loop
 place-requires c κs = search needs
@@ -45,7 +45,7 @@ loop-again : tie.Need-loop-again Inv-loop μ-loop
 loop-again c =
     let l = c .before .before .before .loop in
     let a = c .before .before .before .before .before .before .args in (
-      number-turn (a .area .now) l.numbers l.j (a .h) _ (omega arith) (c .before .place .ensures) ∙ l.inv .0,
+      from-turn (numberAt (a .area .now)) l.numbers l.j (a .h) _ (omega arith) (ap (λ (at : ℕ). getD (a .area .now) at 0) (c .before .place .ensures)) ∙ l.inv .0,
       length-set l.numbers l.j _ ∙ l.inv .1,
       search needs,
     )
@@ -57,7 +57,7 @@ returns : tie.Need-returns Inv-loop μ-loop
 returns c =
     let l = c .before .loop in
     let a = c .before .before .before .before .args in
-    number-end (a .area .now) l.numbers l.j (a .h) (omega arith) ∙ l.inv .0 ∙ numbers-stored (a .area .now) (a .numbers .now) (a .h) (omega arith)
+    from-end (numberAt (a .area .now)) l.numbers l.j (a .h) (omega arith) ∙ l.inv .0 ∙ from-stored (numberAt (a .area .now)) (a .numbers .now) (a .h) (omega arith)
 
 pub write-numbers-spec : {M : Type 1} → statement M
 write-numbers-spec =
