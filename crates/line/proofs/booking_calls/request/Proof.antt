@@ -1,0 +1,11 @@
+-- `line::booking_calls::request` meets its contract: each number goes to its field.
+-- Assumes nothing.
+use mathlib.Core.Path.{refl}
+use Rattle.line.proofs.booking_calls.request.Statement.{statement}
+use Rattle.line.proofs.booking_calls.request.Tie as tie
+
+returns : tie.Need-returns
+returns c = refl
+
+pub request-spec : {M : Type 1} → statement M
+request-spec = tie.close (tie.spec returns)

@@ -1,0 +1,30 @@
+-- `line::station_calls::line_free_units` meets its contract: the code and the word are those of the answer that the
+-- call ensures.
+-- Assumes nothing.
+use mathlib.Core.Path.{ap, _∙_}
+use borrow.Author.Needs.{needs}
+use Rattle.station.specs.declared.Reading.{Reading}
+use Rattle.line.specs.Codes.{readingCode, valueWord}
+use Rattle.line.proofs.station_calls.line_free_units.Statement.{statement}
+use Rattle.line.proofs.station_calls.line_free_units.Tie as tie
+
+free-units-requires : tie.Need-free-units-requires
+free-units-requires c κs = search needs
+
+word-requires : tie.Need-word-requires
+word-requires c κs = search needs
+
+code-requires : tie.Need-code-requires
+code-requires c κs = search needs
+
+returns : tie.Need-returns
+returns c =
+    let called = c .before .before .before in
+    let answer = called .before .before .args .answer .now in
+    let said = called .free-units .ensures in
+    let coded = c .code .ensures ∙ ap readingCode said in
+    let written = c .before .word .ensures ∙ ap (λ (a : Reading). valueWord a answer) said in
+    (coded, written)
+
+pub line-free-units-spec : {M : Type 1} → statement M
+line-free-units-spec = tie.close (tie.spec free-units-requires word-requires code-requires returns)

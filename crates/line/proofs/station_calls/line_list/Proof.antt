@@ -1,0 +1,33 @@
+-- `line::station_calls::line_list` meets its contract: the code and the word are those of the answer that the call
+-- ensures, and the rest is what it ensures itself.
+-- Assumes nothing.
+use mathlib.Core.Path.{ap, _∙_}
+use borrow.Author.Needs.{needs}
+use Rattle.station.specs.declared.Reading.{Reading}
+use Rattle.line.specs.Codes.{readingCode, valueWord}
+use Rattle.line.proofs.station_calls.line_list.Statement.{statement}
+use Rattle.line.proofs.station_calls.line_list.Tie as tie
+
+list-requires : tie.Need-list-requires
+list-requires c κs = search needs
+
+word-requires : tie.Need-word-requires
+word-requires c κs = search needs
+
+code-requires : tie.Need-code-requires
+code-requires c κs = search needs
+
+same-length : tie.Need-same-length
+same-length c = search needs
+
+returns : tie.Need-returns
+returns c =
+    let called = c .before .before .before .before .before in
+    let answer = called .before .before .before .before .args .answer .now in
+    let said = called .list .ensures in
+    let coded = c .code .ensures ∙ ap readingCode (said .0) in
+    let written = c .before .word .ensures ∙ ap (λ (a : Reading). valueWord a answer) (said .0) in
+    (coded, (written, said .1))
+
+pub line-list-spec : {M : Type 1} → statement M
+line-list-spec = tie.close (tie.spec list-requires word-requires code-requires same-length returns)

@@ -1,0 +1,25 @@
+-- `line::table_calls::file_code` meets its contract: each arm is given that `a` is its variant, at which `fileCode`
+-- computes.
+-- Assumes nothing.
+use mathlib.Core.Path.{sym, ap}
+use borrow.Author.Needs.{needs}
+use Rattle.line.specs.Codes.{fileCode}
+use Rattle.line.proofs.table_calls.file_code.Statement.{statement}
+use Rattle.line.proofs.table_calls.file_code.Tie as tie
+
+enum-known-a : tie.Need-enum-known-a
+enum-known-a c = search needs
+
+enum-told : tie.Need-enum-told
+enum-told c = search needs
+
+returns : tie.Need-returns
+unfolding fileCode
+returns c = sym (ap fileCode (c .before .a .given .1))
+
+returns-2 : tie.Need-returns-2
+unfolding fileCode
+returns-2 c = sym (ap fileCode (c .enum-told .given .1))
+
+pub file-code-spec : {M : Type 1} → statement M
+file-code-spec = tie.close (tie.spec enum-known-a enum-told returns returns-2)

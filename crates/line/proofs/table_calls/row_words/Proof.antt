@@ -1,0 +1,26 @@
+-- `line::table_calls::row_words` meets its contract: each arm is given that `a` is its variant, at which `rowWords`
+-- computes.
+-- Assumes nothing.
+use mathlib.Core.Path.{sym, ap}
+use borrow.Author.Needs.{needs}
+use Rattle.classes.specs.declared.Answer.{Answer}
+use Rattle.line.specs.Codes.{rowWords}
+use Rattle.line.proofs.table_calls.row_words.Statement.{statement}
+use Rattle.line.proofs.table_calls.row_words.Tie as tie
+
+enum-told : tie.Need-enum-told
+enum-told c = search needs
+
+enum-known-a : tie.Need-enum-known-a
+enum-known-a c = search needs
+
+returns : tie.Need-returns
+unfolding rowWords
+returns c = sym (ap (λ (a : Answer). rowWords a (c .before .before .args .before)) (c .enum-told .given .1))
+
+returns-2 : tie.Need-returns-2
+unfolding rowWords
+returns-2 c = sym (ap (λ (a : Answer). rowWords a (c .before .before .before .args .before)) (c .before .a .given .1))
+
+pub row-words-spec : {M : Type 1} → statement M
+row-words-spec = tie.close (tie.spec enum-told enum-known-a returns returns-2)

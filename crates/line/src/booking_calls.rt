@@ -1,0 +1,116 @@
+// Quote, admission and release.
+ghost use mathlib.Core.Path.{_≡_};
+ghost use lib.ListN.{length};
+ghost use Rattle.booking.specs.Replies.{answerOf, pathAfter};
+ghost use Rattle.booking.specs.Calls.{quote, admission, booked, release, cleared};
+ghost use Rattle.booking.specs.Meaning.{Quoted, Admitted, Cleared};
+ghost use Rattle.line.specs.Codes.{asked, answerCode, grantWords};
+use booking::Answer;
+use booking::calls;
+use network::Request;
+
+// 0 for a grant or a release, else document 01's number.
+fn code(a: Answer) -> u32
+    ensures { λ r. ⌜ r ≡ answerCode a ⌝ }
+{
+    match a {
+        Answer::Refused(k) => k,
+        Answer::Granted(_) => 0,
+        Answer::Released => 0,
+    }
+}
+
+// Problem, delay, cost and links of a granted path; else the words that stood in the answer array.
+fn words(a: Answer, before: [u32; 4]) -> [u32; 4]
+    ensures { λ r. ⌜ r ≡ grantWords a before ⌝ }
+{
+    match a {
+        Answer::Refused(_) => before,
+        Answer::Granted(g) => [g.problem, g.delay, g.cost, g.links],
+        Answer::Released => before,
+    }
+}
+
+// The request of the numbers, in the order in which C gives them.
+fn request(
+    s: u32,
+    t: u32,
+    units: u32,
+    delay_bound: u32,
+    cost_bound: u32,
+    coefficient: u32,
+) -> Request
+    ensures { λ r. ⌜ r ≡ asked s t units «delay_bound» «cost_bound» coefficient ⌝ }
+{
+    Request {
+        source: s,
+        target: t,
+        units: units,
+        delay_bound: delay_bound,
+        cost_bound: cost_bound,
+        coefficient: coefficient,
+    }
+}
+
+// 5, 6, 7, 8, 9 and 10; else 0, problem, delay, cost and links in `answer` and the path's links in `path`.
+#[no_mangle]
+pub extern "C" fn line_quote(
+    area: &[u32],
+    work: &mut [u32],
+    path: &mut [u32],
+    s: u32,
+    t: u32,
+    units: u32,
+    delay_bound: u32,
+    cost_bound: u32,
+    coefficient: u32,
+    answer: &mut [u32; 4],
+) -> u32
+    ensures code { λ k. ⌜ k ≡ answerCode (answerOf (quote (now (area .entry)) (length (now (work .entry))) (length (now (path .entry))) (asked s t units «delay_bound» «cost_bound» coefficient))) ⌝ }
+    ensures answer { λ _. ⌜ now (answer .exit) ≡ grantWords (answerOf (quote (now (area .entry)) (length (now (work .entry))) (length (now (path .entry))) (asked s t units «delay_bound» «cost_bound» coefficient))) (now (answer .entry)) ⌝ }
+    ensures path { λ _. ⌜ now (path .exit) ≡ pathAfter (quote (now (area .entry)) (length (now (work .entry))) (length (now (path .entry))) (asked s t units «delay_bound» «cost_bound» coefficient)) (now (path .entry)) ⌝ }
+    ensures means { λ _. ⌜ Quoted (now (area .entry)) (length (now (work .entry))) (length (now (path .entry))) (asked s t units «delay_bound» «cost_bound» coefficient) (quote (now (area .entry)) (length (now (work .entry))) (length (now (path .entry))) (asked s t units «delay_bound» «cost_bound» coefficient)) ⌝ }
+{
+    let r = request(s, t, units, delay_bound, cost_bound, coefficient);
+    let a = calls::quote(area, work, path, r);
+    *answer = words(a, *answer);
+    code(a)
+}
+
+// 5, 6, 7, 8, 11, 12, 9 and 10; else as a quote, and the circuit is added to the area.
+#[no_mangle]
+pub extern "C" fn line_admit(
+    area: &mut [u32],
+    work: &mut [u32],
+    path: &mut [u32],
+    circuit: u32,
+    s: u32,
+    t: u32,
+    units: u32,
+    delay_bound: u32,
+    cost_bound: u32,
+    coefficient: u32,
+    answer: &mut [u32; 4],
+) -> u32
+    ensures code { λ k. ⌜ k ≡ answerCode (answerOf (admission (now (area .entry)) (length (now (work .entry))) (length (now (path .entry))) circuit (asked s t units «delay_bound» «cost_bound» coefficient))) ⌝ }
+    ensures answer { λ _. ⌜ now (answer .exit) ≡ grantWords (answerOf (admission (now (area .entry)) (length (now (work .entry))) (length (now (path .entry))) circuit (asked s t units «delay_bound» «cost_bound» coefficient))) (now (answer .entry)) ⌝ }
+    ensures path { λ _. ⌜ now (path .exit) ≡ pathAfter (admission (now (area .entry)) (length (now (work .entry))) (length (now (path .entry))) circuit (asked s t units «delay_bound» «cost_bound» coefficient)) (now (path .entry)) ⌝ }
+    ensures area { λ _. ⌜ now (area .exit) ≡ booked (now (area .entry)) circuit units (admission (now (area .entry)) (length (now (work .entry))) (length (now (path .entry))) circuit (asked s t units «delay_bound» «cost_bound» coefficient)) ⌝ }
+    ensures means { λ _. ⌜ Admitted (now (area .entry)) (length (now (work .entry))) (length (now (path .entry))) circuit (asked s t units «delay_bound» «cost_bound» coefficient) (admission (now (area .entry)) (length (now (work .entry))) (length (now (path .entry))) circuit (asked s t units «delay_bound» «cost_bound» coefficient)) ⌝ }
+{
+    let r = request(s, t, units, delay_bound, cost_bound, coefficient);
+    let a = calls::admit(area, work, path, circuit, r);
+    *answer = words(a, *answer);
+    code(a)
+}
+
+// 5 and 13; else 0, and the circuit with this number goes.
+#[no_mangle]
+pub extern "C" fn line_release(area: &mut [u32], circuit: u32) -> u32
+    ensures code { λ k. ⌜ k ≡ answerCode (answerOf (release (now (area .entry)) circuit)) ⌝ }
+    ensures area { λ _. ⌜ now (area .exit) ≡ cleared (now (area .entry)) circuit (release (now (area .entry)) circuit) ⌝ }
+    ensures means { λ _. ⌜ Cleared (now (area .entry)) circuit (release (now (area .entry)) circuit) ⌝ }
+{
+    let a = calls::release(area, circuit);
+    code(a)
+}

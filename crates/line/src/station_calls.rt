@@ -1,0 +1,74 @@
+// Load, listing and free units.
+ghost use mathlib.Core.Path.{_≡_};
+ghost use lib.ListN.{length};
+ghost use Rattle.station.specs.Load.{loadAnswer, areaLoaded};
+ghost use Rattle.station.specs.Reads.{listAnswer, listed, Lists, freeAnswer};
+ghost use Rattle.line.specs.Codes.{loadCode, readingCode, valueWord};
+use station::Loading;
+use station::Reading;
+use station::load::load;
+use station::reads;
+
+// 0 where it was loaded, else document 01's number.
+fn load_code(a: Loading) -> u32
+    ensures { λ r. ⌜ r ≡ loadCode a ⌝ }
+{
+    match a {
+        Loading::Refused(k) => k,
+        Loading::Loaded => 0,
+    }
+}
+
+// 0 where there is a value, else document 01's number.
+fn code(a: Reading) -> u32
+    ensures { λ r. ⌜ r ≡ readingCode a ⌝ }
+{
+    match a {
+        Reading::Refused(k) => k,
+        Reading::Value(_) => 0,
+    }
+}
+
+// The value; else the word that stood in the answer array.
+fn word(a: Reading, before: [u32; 1]) -> [u32; 1]
+    ensures { λ r. ⌜ r ≡ valueWord a before ⌝ }
+{
+    match a {
+        Reading::Refused(_) => before,
+        Reading::Value(v) => [v],
+    }
+}
+
+// 1, 2, 3 and 4; else 0, and n, m, 0 and the links are written.
+#[no_mangle]
+pub extern "C" fn line_load(n: u32, links: &[u32], area: &mut [u32]) -> u32
+    ensures code { λ k. ⌜ k ≡ loadCode (loadAnswer (now (area .entry)) n (now (links .entry))) ⌝ }
+    ensures area { λ _. ⌜ now (area .exit) ≡ areaLoaded (now (area .entry)) n (now (links .entry)) ⌝ }
+{
+    let a = load(n, links, area);
+    load_code(a)
+}
+
+// 5 and 14; else 0, the held circuits' numbers in `numbers`, and how many they are in `answer`.
+#[no_mangle]
+pub extern "C" fn line_list(area: &[u32], numbers: &mut [u32], answer: &mut [u32; 1]) -> u32
+    ensures code { λ k. ⌜ k ≡ readingCode (listAnswer (now (area .entry)) (length (now (numbers .entry)))) ⌝ }
+    ensures answer { λ _. ⌜ now (answer .exit) ≡ valueWord (listAnswer (now (area .entry)) (length (now (numbers .entry)))) (now (answer .entry)) ⌝ }
+    ensures numbers { λ _. ⌜ now (numbers .exit) ≡ listed (now (area .entry)) (now (numbers .entry)) ⌝ }
+    ensures means { λ _. ⌜ Lists (now (area .entry)) ⌝ }
+{
+    let a = reads::list(area, numbers);
+    *answer = word(a, *answer);
+    code(a)
+}
+
+// 5 and 15; else 0, and the link's free units in `answer`.
+#[no_mangle]
+pub extern "C" fn line_free_units(area: &[u32], link: u32, answer: &mut [u32; 1]) -> u32
+    ensures code { λ k. ⌜ k ≡ readingCode (freeAnswer (now (area .entry)) link) ⌝ }
+    ensures answer { λ _. ⌜ now (answer .exit) ≡ valueWord (freeAnswer (now (area .entry)) link) (now (answer .entry)) ⌝ }
+{
+    let a = reads::free_units(area, link);
+    *answer = word(a, *answer);
+    code(a)
+}

@@ -1,0 +1,106 @@
+/*
+ * The line controller's calls for C and C++. Link with the archive that `rt staticlib line` writes.
+ *
+ * All numbers are 32-bit unsigned words. Each function returns 0 for a grant, or else one of the
+ * refusal numbers below, the first that applies in the order given at the function. A refusal leaves
+ * every buffer as it was, but for work memory, which is open after any call that takes it.
+ *
+ * What the caller owes, and all that it owes: each pointer is aligned, is not null and leads to as
+ * many elements as the count beside it says (an answer array to as many as are named); the buffers of
+ * one call do not overlap; and no other thread writes them meanwhile. Any numbers, any contents and
+ * any counts are taken.
+ */
+#ifndef LINE_H
+#define LINE_H
+
+#include <stddef.h>
+#include <stdint.h>
+
+#ifdef __cplusplus
+extern "C" {
+#endif
+
+/* Least counts of words: a station area, work memory, a path buffer. */
+#define LINE_AREA_WORDS 3459
+#define LINE_WORK_WORDS 16384
+#define LINE_PATH_WORDS 31
+
+/* Most nodes, links and held circuits; the words of a link; the words of a full link table. */
+#define LINE_MOST_NODES 32
+#define LINE_MOST_LINKS 256
+#define LINE_MOST_CIRCUITS 64
+#define LINE_LINK_WORDS 5
+#define LINE_TABLE_WORDS 1280
+
+/* How many service classes there are: 0 card, 1 PIN, 2 tank, 3 prices, 4 service, 5 pictures. */
+#define LINE_CLASSES 6
+
+/* What a call returns: granted, or why it was refused. */
+#define LINE_GRANTED 0
+#define LINE_AREA_TOO_SHORT 1        /* load: the area has under 3,459 words */
+#define LINE_NODES_OUT_OF_RANGE 2    /* load: n is not 2 to 32 */
+#define LINE_TABLE_LENGTH 3          /* load: the words are no multiple of five, or over 1,280 */
+#define LINE_LINK_OUT_OF_RANGE 4     /* load: a field of a link is out of range */
+#define LINE_AREA_NOT_WELL_FORMED 5  /* the area is too short or not well formed */
+#define LINE_WORK_TOO_SHORT 6        /* work memory has under 16,384 words */
+#define LINE_PATH_TOO_SHORT 7        /* the path buffer has under 31 words */
+#define LINE_REQUEST_OUT_OF_RANGE 8  /* s, t or another number of the request is out of range, or s is t */
+#define LINE_NO_PATH 9               /* no usable path exists */
+#define LINE_NO_SOLUTION 10          /* a usable path exists, but neither problem has a solution */
+#define LINE_CIRCUIT_NUMBER 11       /* the circuit number is out of range or held */
+#define LINE_CIRCUITS_FULL 12        /* 64 circuits are held */
+#define LINE_NOT_HELD 13             /* no held circuit has this number */
+#define LINE_LIST_TOO_SHORT 14       /* the buffer is shorter than the number of held circuits */
+#define LINE_NO_SUCH_LINK 15         /* the link is not below m */
+#define LINE_NO_SUCH_CLASS 16        /* the class is over 5 */
+#define LINE_FILE_NO_TRAILER 17      /* the file has under 16 bytes or does not end with RTLK */
+#define LINE_FILE_LENGTH 18          /* m is over 256, or the parts do not make the file's length */
+#define LINE_TABLE_TOO_SHORT 19      /* the table buffer has under 5 m words */
+
+/*
+ * Loads a link table of link_words words, five a link: from, to, delay, cost, capacity. It writes n, m,
+ * 0 and the links into the area; the other words keep theirs. 1, 2, 3, 4.
+ */
+uint32_t line_load(uint32_t n, const uint32_t *links, size_t link_words, uint32_t *area, size_t area_words);
+
+/*
+ * Quotes a path from s to t: answer[0] to answer[3] are the problem (1 or 2), delay, cost and number of
+ * links; the path's links stand in as many first words of path. 5, 6, 7, 8, 9, 10.
+ */
+uint32_t line_quote(const uint32_t *area, size_t area_words, uint32_t *work, size_t work_words,
+                    uint32_t *path, size_t path_words, uint32_t s, uint32_t t, uint32_t units,
+                    uint32_t delay_bound, uint32_t cost_bound, uint32_t coefficient, uint32_t answer[4]);
+
+/* Answers as a quote does, and adds the circuit to the area. 5, 6, 7, 8, 11, 12, 9, 10. */
+uint32_t line_admit(uint32_t *area, size_t area_words, uint32_t *work, size_t work_words, uint32_t *path,
+                    size_t path_words, uint32_t circuit, uint32_t s, uint32_t t, uint32_t units,
+                    uint32_t delay_bound, uint32_t cost_bound, uint32_t coefficient, uint32_t answer[4]);
+
+/* Releases a circuit: it goes, and the others remain. 5, 13. */
+uint32_t line_release(uint32_t *area, size_t area_words, uint32_t circuit);
+
+/*
+ * Lists the numbers of the held circuits, each once and in no set order, in the first words of numbers;
+ * answer[0] is how many they are. 5, 14.
+ */
+uint32_t line_list(const uint32_t *area, size_t area_words, uint32_t *numbers, size_t number_words,
+                   uint32_t answer[1]);
+
+/* answer[0] is the free units of a link. 5, 15. */
+uint32_t line_free_units(const uint32_t *area, size_t area_words, uint32_t link, uint32_t answer[1]);
+
+/* What a service class asks for: answer[0] to answer[3] are units, delay bound, cost bound, coefficient. 16. */
+uint32_t line_class(uint32_t service_class, uint32_t answer[4]);
+
+/*
+ * Reads a link file: answer[0] is n, answer[1] is m, and the words of the m links stand in the first
+ * 5 m words of table. n and the links are checked by line_load. 17, 18, 19.
+ */
+uint32_t line_read_link_file(const uint8_t *file, size_t file_bytes, uint32_t *table, size_t table_words,
+                             uint32_t answer[2]);
+
+#ifdef __cplusplus
+}
+#endif
+
+#endif
