@@ -1,0 +1,4 @@
+pub mod LineBytes
+pub mod Quoted
+pub mod Reported
+pub mod NetA

@@ -1,0 +1,20 @@
+-- Document 01's example: the definitions give its six lines for net A's file.
+-- Assumes nothing.
+use mathlib.Core.Path.{_≡_, refl}
+use Rattle.network.specs.Loops.{iter, first}
+use Rattle.network.specs.Scale.{scaled}
+use Rattle.network.specs.Cut.{noted, follow}
+use Rattle.network.specs.Reduce.{problemOne, problemTwo}
+use Rattle.ebf.specs.Table.{cell, cells, filled, initialised, improved, relaxed, offered, column, round, rounds, ebf}
+use Rattle.ebf.specs.Trace.{trailBack, stepBack, traced}
+use Rattle.ebf.specs.Solve.{pathIn, answerIn, solveIn, solve}
+use Rattle.ebf.specs.Distance.{spread, layer, distance}
+use Rattle.ebf.specs.Search.{tried, search}
+use Rattle.area.specs.Station.{tableIn, circuitOf}
+use Rattle.link_file.specs.Reading.{wordAt, signed, fills}
+use Rattle.class_quotes.specs.Output.{output}
+use Rattle.class_quotes.specs.NetA.{netAFile, netALines}
+
+pub net-a-prints : output netAFile ≡ netALines
+unfolding output netAFile wordAt signed fills tableIn circuitOf search tried solve solveIn answerIn pathIn ebf rounds round column offered relaxed improved initialised filled cell cells traced stepBack trailBack noted follow distance layer spread problemOne problemTwo scaled iter first
+net-a-prints = refl

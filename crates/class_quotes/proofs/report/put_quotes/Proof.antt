@@ -1,0 +1,66 @@
+-- `class_quotes::report::put_quotes` meets its contract: the load says which of the two outputs it is, and a loaded area has nodes.
+-- Assumes nothing.
+use mathlib.Core.Path.{sym, ap, _∙_}
+use mathlib.Core.List.{List}
+use Prim.Native.Nat.{ℕ}
+use borrow.Author.Needs.{needs}
+use Rattle.class_quotes.specs.Lines.{lines}
+use Rattle.class_quotes.specs.Output.{blank}
+use Rattle.class_quotes.proofs.Reported.{all-as, load-refused, load-accepted, some-nodes}
+use Rattle.class_quotes.proofs.report.put_quotes.Statement.{statement}
+use Rattle.class_quotes.proofs.report.put_quotes.Tie as tie
+
+slice-aggregate-load : tie.Need-slice-aggregate-load
+slice-aggregate-load c = search needs
+
+load-requires : tie.Need-load-requires
+load-requires c κs = search needs
+
+enum-known-loading : tie.Need-enum-known-loading
+enum-known-loading c = search needs
+
+put-refusal-requires : tie.Need-put-refusal-requires
+put-refusal-requires c κs = search needs
+
+enum-told : tie.Need-enum-told
+enum-told c = search needs
+
+put-lines-requires : tie.Need-put-lines-requires
+unfolding blank
+put-lines-requires c κs =
+    let told = c .before .before in
+    let load = told .before .before .before in
+    let a = load .before .before .before .args in
+    some-nodes (a .n) (a .links .now) (sym (told .enum-told .given .1) ∙ load .load .ensures .0)
+
+returns : tie.Need-returns
+unfolding blank
+returns c =
+    let told = c .before .before .before .before in
+    let load = told .before .before .before in
+    let a = load .before .before .before .args in
+    all-as (a .text .now) _ _ _ _ (load-refused (a .n) (a .links .now) _ (sym (told .loading .given .1) ∙ load .load .ensures .0)) (c .put-refusal .ensures)
+
+returns-2 : tie.Need-returns-2
+unfolding blank
+returns-2 c =
+    let told = c .before .before .before in
+    let load = told .before .before .before in
+    let a = load .before .before .before .args in
+    all-as (a .text .now) _ _ _ _
+    (load-accepted (a .n) (a .links .now) (sym (told .enum-told .given .1) ∙ load .load .ensures .0)
+    ∙ ap (λ (w : List ℕ). lines w (a .n)) (sym (load .load .ensures .1)))
+    (c .put-lines .ensures)
+
+pub put-quotes-spec : {M : Type 1} → statement M
+put-quotes-spec =
+    tie.close
+    (tie.spec
+    slice-aggregate-load
+    load-requires
+    enum-known-loading
+    put-refusal-requires
+    enum-told
+    put-lines-requires
+    returns
+    returns-2)

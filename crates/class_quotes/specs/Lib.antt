@@ -1,0 +1,3 @@
+pub mod Lines
+pub mod Output
+pub mod NetA
