@@ -136,6 +136,19 @@ static void other_refusals(void)
     granted("class", line_class(LINE_CLASSES - 1, answer));
 }
 
+/* An area that claims 65 circuits is not well formed, whatever else holds. */
+static void damaged_area(void)
+{
+    const size_t a = LINE_AREA_WORDS, w = LINE_WORK_WORDS, p = LINE_PATH_WORDS;
+    area[2] = LINE_MOST_CIRCUITS + 1;
+    ready();
+    refused("quote", quote(a, w, p, 3, 1, 8), LINE_AREA_NOT_WELL_FORMED);
+    refused("admit", admit(a, w, p, 7, 3, 1, 8), LINE_AREA_NOT_WELL_FORMED);
+    refused("release", line_release(area, a, 7), LINE_AREA_NOT_WELL_FORMED);
+    refused("list", line_list(area, a, numbers, LINE_MOST_CIRCUITS, answer), LINE_AREA_NOT_WELL_FORMED);
+    refused("free units", line_free_units(area, a, 0, answer), LINE_AREA_NOT_WELL_FORMED);
+}
+
 /* 64 circuits of one unit each over links of capacity 64: the 65th is refused before any search. */
 static void full_area(void)
 {
@@ -180,6 +193,7 @@ int main(void)
     quote_refusals();
     admit_refusals();
     other_refusals();
+    damaged_area();
     full_area();
     file_refusals();
     if (failures == 0)

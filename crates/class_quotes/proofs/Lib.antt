@@ -1,4 +1,3 @@
-pub mod LineBytes
-pub mod Quoted
-pub mod Reported
+-- The laws of what is printed.
 pub mod NetA
+pub mod Reported

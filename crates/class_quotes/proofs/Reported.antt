@@ -1,12 +1,10 @@
 -- What the program prints, case by case.
 -- Assumes nothing.
 use mathlib.Core.Path.{_≡_, refl, sym, ap, _∙_}
-use mathlib.Core.Bool.{cond}
 use mathlib.Core.List.{List, [], _∷_, _++_, append-nil}
 use Prim.Native.Nat.{ℕ, _*_, _≤_, _<_}
 use native.Mathlib.Omega.{arith}
 use borrow.Author.Tests.{le-leb, lt-leb}
-use lib.Dec.{leb}
 use lib.ListN.{length, take, drop, length-append}
 use lib.Seq.{sets, take-at, length-take-le}
 use Rattle.io.specs.Counts.{Counts}
@@ -20,7 +18,7 @@ use Rattle.link_file.specs.Reading.{readAnswer, recordWords, tableRead, linksIn
 use Rattle.link_file.proofs.Accepted.{records-length, size-read, table-accepted}
 use Rattle.text.specs.Fields.{field, fields}
 use Rattle.text.proofs.Puts.{Put, put-behind, no-fields, more-fields}
-use Rattle.class_quotes.specs.Lines.{lines}
+use Rattle.class_lines.specs.Lines.{lines}
 use Rattle.class_quotes.specs.Output.{fileWord, loadWord, fileLong, refusal, blank, loadingOutput, loadOutput, readingOutput, fileOutput, output}
 
 -- what each function that puts all that is printed ensures
@@ -106,16 +104,14 @@ module _ (f : List ℕ) where
     table-fits = omega (arith, simp length-append at (ap length records-then), records-length f, links-are)
 
 -- ---- the whole output
-output-is : (f : List ℕ) → output f ≡ cond (leb (length f) 65536) (fileOutput f) fileLong
-unfolding output
-output-is f = refl
-
 -- input over 65,536 bytes is told apart
 pub long-file : (f : List ℕ) → 65536 < length f → output f ≡ fileLong
-long-file f h = output-is f ∙ rw (lt-leb (length f) 65536 h)
+unfolding output
+long-file f h = rw (lt-leb (length f) 65536 h)
 
 pub taken : (f : List ℕ) → length f ≤ 65536 → output f ≡ fileOutput f
-taken f h = output-is f ∙ rw (le-leb (length f) 65536 h)
+unfolding output
+taken f h = rw (le-leb (length f) 65536 h)
 
 -- what is printed stands in the first bytes
 pub counted : (t t' out bytes : List ℕ) (r : ℕ) → out ≡ bytes → PutAll t bytes t' r → Counts r t' × ((r ≡ length out) × (t' ≡ sets t 0 out))

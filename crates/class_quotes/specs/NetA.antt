@@ -1,4 +1,4 @@
--- Document 01's example: net A as a link file, and what the program prints for it, in ASCII.
+-- Document 01's example: net A as a link file, and what the program prints for it, in ASCII. And two that are refused.
 -- Assumes nothing.
 use Prim.Native.Nat.{ℕ}
 use mathlib.Core.List.{List, [], _∷_, _++_}
@@ -13,9 +13,14 @@ netALinks =
     ∷ 0 ∷ 3 ∷ 9 ∷ 1 ∷ 10
     ∷ []
 
-unfoldable pub netAFile : List ℕ
+-- with so many nodes
+unfoldable pub fileFor : ℕ → List ℕ
 unfolding bytesOfAll
-netAFile = bytesOfAll netALinks ++ trailer 0 4 4
+fileFor n = bytesOfAll netALinks ++ trailer 0 4 n
+
+unfoldable pub netAFile : List ℕ
+unfolding fileFor
+netAFile = fileFor 4
 
 -- ---- the six lines
 -- 0 1 6 15 0 1 2
@@ -44,3 +49,12 @@ class-five = 53 ∷ 32 ∷ 48 ∷ 32 ∷ 57 ∷ 10 ∷ []
 
 abbrev pub netALines : List ℕ
 netALines = class-zero ++ class-one ++ class-two ++ class-three ++ class-four ++ class-five
+
+-- ---- refusals
+-- file 17
+abbrev pub fileSeventeen : List ℕ
+fileSeventeen = 102 ∷ 105 ∷ 108 ∷ 101 ∷ 32 ∷ 49 ∷ 55 ∷ 10 ∷ []
+
+-- load 2
+abbrev pub loadTwo : List ℕ
+loadTwo = 108 ∷ 111 ∷ 97 ∷ 100 ∷ 32 ∷ 50 ∷ 10 ∷ []

@@ -12,7 +12,7 @@ use Rattle.link_file.specs.declared.Reading.{Reading}
 use Rattle.link_file.specs.declared.Reading.the-variants as reading
 use Rattle.link_file.specs.Reading.{readAnswer, recordWords}
 use Rattle.text.specs.Fields.{fields}
-use Rattle.class_quotes.specs.Lines.{lines}
+use Rattle.class_lines.specs.Lines.{lines}
 
 -- in ASCII: file, load, and file long with its newline
 abbrev pub fileWord : List ℕ
@@ -55,5 +55,4 @@ fileOutput file = readingOutput (recordWords file) (readAnswer file 1280)
 
 -- input over 65,536 bytes is told apart
 unfoldable pub output : List ℕ → List ℕ
-unfolding fileOutput
 output file = cond (leb (length file) 65536) (fileOutput file) fileLong

@@ -1,6 +1,5 @@
 // The class program of document 01: reads a link file on standard input, loads a fresh area and quotes each class from
 // node 0 to n - 1. It prints a line for each class, or that the file or the load was refused.
-mod lines;
 mod report;
 
 use libc::STDIN_FILENO;

@@ -5,7 +5,7 @@ ghost use lib.ListN.{length};
 ghost use lib.Seq.{sets};
 ghost use Rattle.io.specs.Counts.{Counts};
 ghost use Rattle.class_quotes.specs.Output.{refusal, loadOutput, fileOutput, output};
-use crate::lines::put_lines;
+use class_lines::put_lines;
 use link_file::Reading;
 use network::link;
 use station::Loading;

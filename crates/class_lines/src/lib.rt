@@ -1,10 +1,11 @@
-// The program's lines, one for each class. A line has at most 34 fields behind the class, so at most 385 bytes.
+// The lines of the class program, one for each class, as bytes. A line has at most 34 fields behind the class, so at most
+// 385 bytes: the functions require room for a line, and the text has room for six.
 ghost use mathlib.Core.Path.{_≡_};
 ghost use mathlib.Core.List.{[], _∷_};
 ghost use Prim.Native.Nat.{_+_, _≤_};
 ghost use lib.ListN.{length};
 ghost use lib.Seq.{sets};
-ghost use Rattle.class_quotes.specs.Lines.{line, requestOf, quoteLine, classLine, lines};
+ghost use Rattle.class_lines.specs.Lines.{line, requestOf, quoteLine, classLine, lines};
 use booking::Answer;
 use booking::calls::quote;
 use classes::Service;
@@ -100,7 +101,7 @@ fn put_class(
 }
 
 // The lines of the six classes.
-pub(crate) fn put_lines(text: &mut [u8; 4096], area: &[u32; 3459], n: u32) -> usize
+pub fn put_lines(text: &mut [u8; 4096], area: &[u32; 3459], n: u32) -> usize
     requires { ⌜ 1 ≤ n ⌝ }
     ensures end { λ r. ⌜ (r ≡ length (lines (now (area .entry)) n)) × (r ≤ length (now (text .exit))) ⌝ }
     ensures text { λ _. ⌜ now (text .exit) ≡ sets (now (text .entry)) 0 (lines (now (area .entry)) n) ⌝ }

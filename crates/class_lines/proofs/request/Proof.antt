@@ -1,10 +1,10 @@
--- `class_quotes::lines::request` meets its contract: its fields are those of `requestOf`.
+-- `class_lines::request` meets its contract: its fields are those of `requestOf`.
 -- Assumes nothing.
 use mathlib.Core.Path.{refl}
 use borrow.Author.Needs.{needs}
-use Rattle.class_quotes.specs.Lines.{requestOf}
-use Rattle.class_quotes.proofs.lines.request.Statement.{statement}
-use Rattle.class_quotes.proofs.lines.request.Tie as tie
+use Rattle.class_lines.specs.Lines.{requestOf}
+use Rattle.class_lines.proofs.request.Statement.{statement}
+use Rattle.class_lines.proofs.request.Tie as tie
 
 sub-t3 : tie.Need-sub-t3
 sub-t3 c = search needs

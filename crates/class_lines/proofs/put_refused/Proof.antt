@@ -1,10 +1,10 @@
--- `class_quotes::lines::put_refused` meets its contract: what it puts, one behind the other, is the line.
+-- `class_lines::put_refused` meets its contract: what it puts, one behind the other, is the line.
 -- Assumes nothing.
 use native.Mathlib.Omega.{arith}
 use borrow.Author.Needs.{needs}
-use Rattle.class_quotes.proofs.LineBytes.{refused-line}
-use Rattle.class_quotes.proofs.lines.put_refused.Statement.{statement}
-use Rattle.class_quotes.proofs.lines.put_refused.Tie as tie
+use Rattle.class_lines.proofs.LineBytes.{refused-line}
+use Rattle.class_lines.proofs.put_refused.Statement.{statement}
+use Rattle.class_lines.proofs.put_refused.Tie as tie
 
 put-number-requires : tie.Need-put-number-requires
 put-number-requires c κs = search needs

@@ -11,7 +11,7 @@ use lib.Seq.{sets}
 use Rattle.text.specs.Decimal.{decimal}
 use Rattle.text.specs.Fields.{field, fields}
 use Rattle.text.proofs.Puts.{Put, Left, put-behind, left-behind, none-left, no-fields, more-fields}
-use Rattle.class_quotes.specs.Lines.{line, classLine, linesFrom, lines}
+use Rattle.class_lines.specs.Lines.{line, classLine, linesFrom, lines}
 
 -- what each function that puts a line ensures
 abbrev pub PutLine : List ℕ → ℕ → List ℕ → List ℕ → ℕ → Type 0

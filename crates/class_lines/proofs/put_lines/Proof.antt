@@ -1,4 +1,4 @@
--- `class_quotes::lines::put_lines` meets its contract: the lines that are still to put, put from here, come to the same. Six lines of
+-- `class_lines::put_lines` meets its contract: the lines that are still to put, put from here, come to the same. Six lines of
 -- at most 385 bytes fit.
 -- Assumes nothing.
 use Prim.Native.Nat.{_*_, _-_, _≤_}
@@ -7,10 +7,10 @@ use borrow.Author.Needs.{needs}
 use lib.ListN.{length}
 use lib.Seq.{sets}
 use Rattle.text.proofs.Puts.{Left}
-use Rattle.class_quotes.specs.Lines.{linesFrom, lines}
-use Rattle.class_quotes.proofs.LineBytes.{lines-none, lines-turn, lines-end}
-use Rattle.class_quotes.proofs.lines.put_lines.Statement.{statement}
-use Rattle.class_quotes.proofs.lines.put_lines.Tie as tie
+use Rattle.class_lines.specs.Lines.{linesFrom, lines}
+use Rattle.class_lines.proofs.LineBytes.{lines-none, lines-turn, lines-end}
+use Rattle.class_lines.proofs.put_lines.Statement.{statement}
+use Rattle.class_lines.proofs.put_lines.Tie as tie
 
 abbrev Inv-loop : tie.InvT-loop
 Inv-loop text₀ area n work₀ at₀ k₀ text work at k =

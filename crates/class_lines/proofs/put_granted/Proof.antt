@@ -1,10 +1,10 @@
--- `class_quotes::lines::put_granted` meets its contract: what it puts, one behind the other, is the line.
+-- `class_lines::put_granted` meets its contract: what it puts, one behind the other, is the line.
 -- Assumes nothing.
 use native.Mathlib.Omega.{arith}
 use borrow.Author.Needs.{needs}
-use Rattle.class_quotes.proofs.LineBytes.{granted-line}
-use Rattle.class_quotes.proofs.lines.put_granted.Statement.{statement}
-use Rattle.class_quotes.proofs.lines.put_granted.Tie as tie
+use Rattle.class_lines.proofs.LineBytes.{granted-line}
+use Rattle.class_lines.proofs.put_granted.Statement.{statement}
+use Rattle.class_lines.proofs.put_granted.Tie as tie
 
 put-number-requires : tie.Need-put-number-requires
 put-number-requires c κs = search needs

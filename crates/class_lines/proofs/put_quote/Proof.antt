@@ -1,14 +1,14 @@
--- `class_quotes::lines::put_quote` meets its contract: the answer and the path buffer after the quote give the line of its reply.
+-- `class_lines::put_quote` meets its contract: the answer and the path buffer after the quote give the line of its reply.
 -- Assumes nothing.
 use mathlib.Core.Path.{_≡_, refl, sym, _∙_}
 use native.Mathlib.Omega.{arith}
 use borrow.Author.Needs.{needs}
 use lib.Seq.{length-take-le}
 use lib.ListN.{length}
-use Rattle.class_quotes.proofs.LineBytes.{put-as}
-use Rattle.class_quotes.proofs.Quoted.{line-of-quote, reply-refused, reply-granted, never-released}
-use Rattle.class_quotes.proofs.lines.put_quote.Statement.{statement}
-use Rattle.class_quotes.proofs.lines.put_quote.Tie as tie
+use Rattle.class_lines.proofs.LineBytes.{put-as}
+use Rattle.class_lines.proofs.Quoted.{line-of-quote, reply-refused, reply-granted, never-released}
+use Rattle.class_lines.proofs.put_quote.Statement.{statement}
+use Rattle.class_lines.proofs.put_quote.Tie as tie
 
 slice-aggregate-quote : tie.Need-slice-aggregate-quote
 slice-aggregate-quote c = search needs

@@ -1,11 +1,11 @@
--- `class_quotes::lines::put_class` meets its contract: a refused class has its own line, and a row is quoted.
+-- `class_lines::put_class` meets its contract: a refused class has its own line, and a row is quoted.
 -- Assumes nothing.
 use mathlib.Core.Path.{sym, _∙_}
 use borrow.Author.Needs.{needs}
-use Rattle.class_quotes.proofs.LineBytes.{put-as}
-use Rattle.class_quotes.proofs.Quoted.{class-refused, class-row}
-use Rattle.class_quotes.proofs.lines.put_class.Statement.{statement}
-use Rattle.class_quotes.proofs.lines.put_class.Tie as tie
+use Rattle.class_lines.proofs.LineBytes.{put-as}
+use Rattle.class_lines.proofs.Quoted.{class-refused, class-row}
+use Rattle.class_lines.proofs.put_class.Statement.{statement}
+use Rattle.class_lines.proofs.put_class.Tie as tie
 
 class-requires : tie.Need-class-requires
 class-requires c κs = search needs

@@ -19,7 +19,7 @@ use Rattle.classes.specs.Classes.{classAnswer}
 use Rattle.booking.specs.declared.Answer.the-variants.{Refused, Granted, Released}
 use Rattle.booking.specs.Replies.{Reply, refuses, grants, releases, answerOf, replyOf, pathAfter}
 use Rattle.booking.specs.Calls.{booksIn, quoteChecks, sought, quote}
-use Rattle.class_quotes.specs.Lines.{line, replyLine, requestOf, quoteLine, answeredLine, classLine}
+use Rattle.class_lines.specs.Lines.{line, replyLine, requestOf, quoteLine, answeredLine, classLine}
 
 -- ---- a quote's reply
 quote-line : (area : List ℕ) (n k : ℕ) (s : Service) → quoteLine area n k s ≡ replyLine k (quote area 16384 31 (requestOf n s))

@@ -1,0 +1,4 @@
+-- The laws of the lines.
+pub mod DocumentLines
+pub mod LineBytes
+pub mod Quoted
