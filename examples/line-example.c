@@ -1,6 +1,7 @@
 /*
  * The C interface on document 01's net A: its link file is read and loaded, and then come quotes, an admission, a
- * listing and a release. The names M1 to M9 are document 01's cases; line-example.expected has its figures.
+ * listing and a release. The names M1 to M9 are document 01's cases; line-example.expected has its
+ * figures, and what follows from its rules.
  *
  *     rt staticlib line
  *     cc -Wall -Wextra -Werror -Iinclude examples/line-example.c target/staticlib/libline.a -o line-example

@@ -100,7 +100,7 @@ fn put_class(
     }
 }
 
-// The lines of the six classes.
+// The lines of the six classes. The caller has loaded the area with n nodes, which are at least two.
 pub fn put_lines(text: &mut [u8; 4096], area: &[u32; 3459], n: u32) -> usize
     requires { ⌜ 1 ≤ n ⌝ }
     ensures end { λ r. ⌜ (r ≡ length (lines (now (area .entry)) n)) × (r ≤ length (now (text .exit))) ⌝ }
