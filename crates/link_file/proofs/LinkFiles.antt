@@ -9,7 +9,7 @@ use native.Mathlib.Omega.{arith}
 use borrow.Author.Tests.{le-leb, eq-eqb, eqb-true}
 use lib.Dec.{leb, eqb}
 use lib.ListN.{length, getD, take, drop, length-append, length-drop, take-append-drop}
-use lib.Seq.{getD-append-add, getD-drop, drop-append-seam, drop-append-add, length-take-le}
+use lib.Seq.{getD-append-add, getD-drop, drop-append-seam, drop-drop, length-take-le}
 use Rattle.network.proofs.Tests.{fst-of, snd-of}
 use Rattle.link_file.specs.declared.Size.{Size}
 use Rattle.link_file.specs.declared.Reading.the-variants.{Table}
@@ -156,11 +156,6 @@ module _ (f : List ℕ) (bytes : AllBelow 256 f) (s : signed f ≡ true) (d : �
       word : (i back : ℕ) → d + i ≡ length f - back → wordAt (drop d f) i ≡ wordAt f (length f - back)
       word i back e = word-left f d i ∙ ap (wordAt f) e
 
-drop-twice : (f : List ℕ) (o k : ℕ) → o ≤ length f → drop k (drop o f) ≡ drop (o + k) f
-drop-twice f o k below =
-    sym (drop-append-add (take o f) (drop o f) k)
-    ∙ ap₂ (λ (n : ℕ) (l : List ℕ). drop (n + k) l) (length-take-le o f below) (take-append-drop o f)
-
 module _ (f : List ℕ) (bytes : AllBelow 256 f) (room : ℕ) (a : Accepted f room) where
   below : offsetIn f ≤ length f
   below = omega (arith, a .whole)
@@ -174,7 +169,7 @@ module _ (f : List ℕ) (bytes : AllBelow 256 f) (room : ℕ) (a : Accepted f ro
       let last : offsetIn f + 4 * (5 * linksIn f) + 16 ≡ length f = omega (arith, a .whole) in
       bytes-of-words (5 * linksIn f) (drop (offsetIn f) f) long (bytes-left f (offsetIn f) bytes)
       ∙ ap (λ (l : List ℕ). bytesOfAll (wordsFrom (drop (offsetIn f) f) 0 (5 * linksIn f)) ++ l)
-      (drop-twice f (offsetIn f) k below ∙ last-trailer f bytes (a .trailer) (offsetIn f + k) last)
+      (drop-drop k (offsetIn f) f ∙ last-trailer f bytes (a .trailer) (offsetIn f + k) last)
 
   is-laid : f ≡ take (offsetIn f) f ++ bytesOfAll (recordWords f) ++ trailer (length (take (offsetIn f) f)) (linksIn f) (nodesIn f)
   is-laid =
