@@ -1,0 +1,38 @@
+//! The benchmark: how long a quote and an admission with its release take in the proved archive, in a plain Rust search
+//! by the paper's lines with all rounds, with an early stop, and with the proved search's own stop. docs/performance.md has what it prints.
+
+mod answer;
+mod goals;
+mod implementations;
+mod jobs;
+mod nets;
+mod plain;
+mod proved;
+mod requests;
+mod tables;
+mod timing;
+
+use std::process::ExitCode;
+
+fn tables() -> Result<(), String> {
+    let mut implementations = implementations::Implementations::new();
+    let mut goals = goals::Goals::default();
+    tables::by_outcome(&mut implementations, &mut goals)?;
+    println!();
+    tables::by_held_circuits(&mut implementations)?;
+    println!();
+    tables::by_x(&mut implementations)?;
+    println!();
+    goals.print();
+    Ok(())
+}
+
+fn main() -> ExitCode {
+    match tables() {
+        Ok(()) => ExitCode::SUCCESS,
+        Err(message) => {
+            eprintln!("benchmark: {message}");
+            ExitCode::FAILURE
+        }
+    }
+}
