@@ -33,12 +33,12 @@ iter-reaches f Q P j (suc n) low before brings keeps a h =
     (λ ne. keeps n (iter f n a) (iter-reaches f Q P j n (omega arith) (λ i b l. before i b (omega arith)) brings keeps a h))
 
 -- where each turn only lowers a number, so do they all
-iter-lower : (f : ℕ → List ℕ → List ℕ) (c : ℕ) → ((i : ℕ) (l : List ℕ) → number (f i l) c ≤ number l c)
+pub iter-lower : (f : ℕ → List ℕ → List ℕ) (c : ℕ) → ((i : ℕ) (l : List ℕ) → number (f i l) c ≤ number l c)
     → (n : ℕ) (l : List ℕ) → number (iter f n l) c ≤ number l c
 iter-lower f c lower n l = iter-keeps f (λ (r : List ℕ). number r c ≤ number l c) n l (λ i r _ h. le-trans (lower i r) h) (le-refl _)
 
 module _ (g : Net) (q : Problem) where
-  column-lower : (c k : ℕ) (l : List ℕ) → number (column g q k l) c ≤ number l c
+  pub column-lower : (c k : ℕ) (l : List ℕ) → number (column g q k l) c ≤ number l c
   unfolding column
   column-lower c k = iter-lower (offered g q k) c (λ i l. offered-lower g q k i l c) (g .links)
 

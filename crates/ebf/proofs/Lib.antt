@@ -10,3 +10,4 @@ pub mod Memory
 pub mod Solved
 pub mod Search
 pub mod Same
+pub mod Settled

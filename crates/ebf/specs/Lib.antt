@@ -4,3 +4,4 @@ pub mod Solve
 pub mod Distance
 pub mod Search
 pub mod Alike
+pub mod Settled

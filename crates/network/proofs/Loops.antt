@@ -65,11 +65,12 @@ unfolding iter
 iter-first g zero a = refl
 iter-first g (suc n) a = ap g (iter-first g n a)
 
--- a turn that changed nothing: the turns that are left may be left out
-pub iter-settled : {A : Type 0} (g : A → A) (n m : ℕ) (a : A) {b d : A} → b ≡ iter (λ _. g) n a → n ≤ m → d ≡ g b → b ≡ d
+-- a turn after which a turn changes nothing: the turns that are left may be left out
+pub iter-settled : {A : Type 0} (g : A → A) (n m : ℕ) (a : A) {b d : A} → b ≡ iter (λ _. g) n a → n < m → d ≡ g b → g d ≡ d
     → d ≡ iter (λ _. g) m a
-iter-settled g n m a {b} h low turn same =
-    sym same ∙ iter-done (λ _. g) (m - n + n) m a (iter-stays (λ _. g) n (m - n) a b h (λ _. sym turn ∙ sym same)) (omega arith)
+iter-settled g n m a {b} {d} h low turn same =
+    iter-done (λ _. g) (m - (n + 1) + (n + 1)) m a
+    (iter-stays (λ _. g) (n + 1) (m - (n + 1)) a d (iter-more (λ _. g) n a h turn) (λ _. same)) (omega arith)
 
 -- ---- the first number at which a test passes
 module _ (f : ℕ → Bool) where

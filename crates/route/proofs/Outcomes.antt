@@ -17,12 +17,13 @@ use Rattle.ebf.specs.Trace.{traced}
 use Rattle.ebf.specs.Solve.{pathIn, answerIn, solveIn, solve}
 use Rattle.ebf.specs.Search.{outcomeOf}
 use Rattle.ebf.proofs.Good.{Room}
+use Rattle.ebf.proofs.Sound.{initialised-good}
 use Rattle.ebf.proofs.Memory.{any-memory-solves}
 use Rattle.route.specs.declared.Leg.{Leg}
 use Rattle.route.specs.declared.Reduced.{Reduced}
 use Rattle.route.specs.declared.Answer.the-variants.{NoSolution, Granted}
 use Rattle.route.specs.Ready.{Links}
-use Rattle.route.specs.Solver.{Sound, netIn, problemOf}
+use Rattle.route.specs.Solver.{Sound, netIn, problemOf, Bounded}
 use Rattle.route.specs.Forward.{forwarded}
 use Rattle.route.specs.Answers.{answerOf, pathAfter}
 use Rattle.route.proofs.Steps.{cells-below}
@@ -53,6 +54,13 @@ module _ (p : Reduced) (links usable kept scaled : List ℕ) (s t : ℕ) (sound 
       → l₂ ≡ ebf g q s l
   unfolding ebf initialised netOf problemOf
   table-is e₁ e₂ = e₂ ∙ ap (rounds g q) e₁
+
+  -- which leave every number within the bound, or bound + 1
+  pub table-bounded : {l₁ : List ℕ}
+      → l₁ ≡ filled (cell (p .x) s 0) (p .x + 1) 0 (filled 0 (cells (p .nodes) (p .x)) (p .bound + 1) l)
+      → Bounded p l₁
+  unfolding initialised netOf problemOf
+  table-bounded e v k v-low k-low = rw e (initialised-good g q s l room s-low .below v k v-low k-low)
 
   module _ {l₂ : List ℕ} (table : l₂ ≡ ebf g q s l) where
     solve-is : solve g q s t ≡ answerIn g q l₂ s t

@@ -1,6 +1,6 @@
 -- The problem that prepared weights describe, and what the solver's functions rely on.
 -- Assumes nothing.
-use Prim.Native.Nat.{ℕ, _≤_, _<_}
+use Prim.Native.Nat.{ℕ, _+_, _≤_, _<_}
 use mathlib.Core.Path.{_≡_}
 use mathlib.Core.Bool.{Bool, false}
 use mathlib.Core.List.{List, []}
@@ -8,6 +8,7 @@ use lib.ListN.{length, getD}
 use Rattle.network.specs.Net.{Net}
 use Rattle.network.specs.Problem.{Problem}
 use Rattle.ebf.specs.declared.Trail.{Trail}
+use Rattle.ebf.specs.Table.{cell, number}
 use Rattle.network.specs.Words.{field, netOf}
 use Rattle.route.specs.declared.Hop.{Hop}
 use Rattle.route.specs.declared.Reduced.{Reduced}
@@ -53,10 +54,16 @@ pub record Hopped (links kept scaled : List ℕ) (i : ℕ) (h : Hop) : Type 0 wh
   pub head-low : h .head < 32
   pub light : h .weight ≤ 1000000
 
--- what a function that says false tells: the words are as they were, and it was told of no change before
-pub record Same (changed : Bool) (before after : List ℕ) : Type 0 where
-  pub words : before ≡ after
-  pub told : changed ≡ false
+-- every number of the table is within the bound, or bound + 1 for ∞
+abbrev pub Bounded : Reduced → List ℕ → Type 0
+Bounded p l = (v k : ℕ) → v < p .nodes → k ≤ p .x → number l (cell (p .x) v k) ≤ p .bound + 1
+
+-- What a relaxation that says false tells, where the link's scaled weight is `step` and it was told `again` before: the
+-- words of the column that it was tried from are as they were, since a link of scaled weight 0 changed nothing, and it
+-- was told false
+pub record Own (again : Bool) (step : ℕ) (before after : List ℕ) : Type 0 where
+  pub words : step ≡ 0 → before ≡ after
+  pub told : again ≡ false
 
 -- the trail is at a cell of the table
 pub record OnTable (p : Reduced) (w : Trail) : Type 0 where

@@ -1,15 +1,16 @@
-// Lines 20 to 24 in the paper's order: rounds, k rising, links in table order. A round that changes nothing ends
-// the rounds, since the rest of them would change nothing either.
+// Lines 20 to 24 in the paper's order: rounds, k rising, links in table order. The rounds end with one in which no link of
+// scaled weight 0 changed a number: the rest of them would change nothing, since every link is then settled.
 ghost use mathlib.Core.Path.{_≡_};
 ghost use mathlib.Core.Bool.{false};
 ghost use Prim.Native.Nat.{_≤_};
 ghost use lib.ListN.{length};
 ghost use Rattle.ebf.specs.Table.{column, round, rounds};
-ghost use Rattle.route.specs.Solver.{Sound, netIn, problemOf, Same};
+ghost use Rattle.ebf.specs.Settled.{SettledColumn};
+ghost use Rattle.route.specs.Solver.{Sound, netIn, problemOf, Bounded};
 use crate::Reduced;
 use crate::table::offer;
 
-// Lines 23 and 24 at `k`.
+// Lines 23 and 24 at `k`. Gives false only where column k is settled, and it was told false.
 fn relax_links(
     work: &mut [u32],
     links: &[u32],
@@ -18,22 +19,22 @@ fn relax_links(
     scaled: &[u32; 256],
     p: Reduced,
     k: usize,
-    changed: bool,
+    again: bool,
 ) -> bool
     requires { ⌜ Sound p (now links) (now usable) (now kept) ⌝ }
-    requires { ⌜ 16384 ≤ length (now work) ⌝ }
+    requires { ⌜ (16384 ≤ length (now work)) × Bounded p (now work) ⌝ }
     requires { ⌜ k ≤ p .x ⌝ }
     ensures is { λ _. ⌜ now (work .exit) ≡ column (netIn p (now (links .entry)) (now (usable .entry))) (problemOf p (now (kept .entry)) (now (scaled .entry))) k (now (work .entry)) ⌝ }
-    ensures told { λ r. ⌜ (r ≡ false → Same changed (now (work .entry)) (now (work .exit))) ⌝ }
+    ensures told { λ r. ⌜ (r ≡ false → SettledColumn (netIn p (now (links .entry)) (now (usable .entry))) (problemOf p (now (kept .entry)) (now (scaled .entry))) k (now (work .exit)) × (again ≡ false)) ⌝ }
 {
-    let mut any = changed;
+    let mut due = again;
     for i in 0..p.links {
-        any = offer(work, links, usable, kept, scaled, p, k, i, any);
+        due = offer(work, links, usable, kept, scaled, p, k, i, due);
     }
-    any
+    due
 }
 
-// Lines 22 to 24: k rises. Gives false only where nothing changed.
+// Lines 22 to 24: k rises. Gives false only where another round would change nothing.
 fn round(
     work: &mut [u32],
     links: &[u32],
@@ -43,15 +44,15 @@ fn round(
     p: Reduced,
 ) -> bool
     requires { ⌜ Sound p (now links) (now usable) (now kept) ⌝ }
-    requires { ⌜ 16384 ≤ length (now work) ⌝ }
+    requires { ⌜ (16384 ≤ length (now work)) × Bounded p (now work) ⌝ }
     ensures is { λ _. ⌜ now (work .exit) ≡ round (netIn p (now (links .entry)) (now (usable .entry))) (problemOf p (now (kept .entry)) (now (scaled .entry))) (now (work .entry)) ⌝ }
-    ensures told { λ r. ⌜ (r ≡ false → now (work .entry) ≡ now (work .exit)) ⌝ }
+    ensures told { λ r. ⌜ (r ≡ false → round (netIn p (now (links .entry)) (now (usable .entry))) (problemOf p (now (kept .entry)) (now (scaled .entry))) (now (work .exit)) ≡ now (work .exit)) ⌝ }
 {
-    let mut any = false;
+    let mut due = false;
     for k in 0..p.x + 1 {
-        any = relax_links(work, links, usable, kept, scaled, p, k, any);
+        due = relax_links(work, links, usable, kept, scaled, p, k, due);
     }
-    any
+    due
 }
 
 // Lines 21 to 24.
@@ -64,7 +65,7 @@ pub fn rounds(
     p: Reduced,
 )
     requires { ⌜ Sound p (now links) (now usable) (now kept) ⌝ }
-    requires { ⌜ 16384 ≤ length (now work) ⌝ }
+    requires { ⌜ (16384 ≤ length (now work)) × Bounded p (now work) ⌝ }
     ensures { λ _. ⌜ now (work .exit) ≡ rounds (netIn p (now (links .entry)) (now (usable .entry))) (problemOf p (now (kept .entry)) (now (scaled .entry))) (now (work .entry)) ⌝ }
 {
     for _ in 0..p.nodes - 1 {

@@ -1,10 +1,10 @@
 -- `route::attempt::attempt` meets its contract: the table is the model's, and with it the answer.
 -- Assumes nothing.
 use mathlib.Core.Path.{ap, _∙_}
-use mathlib.Core.List.{List}
+use mathlib.Core.List.{List, []}
 use Prim.Native.Nat.{ℕ}
 use Rattle.ebf.specs.declared.Trail.{Trail}
-use Rattle.route.proofs.Outcomes.{table-is, answers-none, leaves-path, answers-path, writes-path}
+use Rattle.route.proofs.Outcomes.{table-is, table-bounded, answers-none, leaves-path, answers-path, writes-path}
 use Rattle.route.proofs.Unflagged.{traced-unflagged, forwarded-unflagged}
 use borrow.Author.Needs.{needs}
 use Rattle.route.proofs.attempt.attempt.Statement.{statement}
@@ -14,7 +14,10 @@ initialise-requires : tie.Need-initialise-requires
 initialise-requires c κs = search needs
 
 rounds-requires : tie.Need-rounds-requires
-rounds-requires c κs = search needs
+rounds-requires c κs =
+    let start = c .before .before .before .before .before .before .before .before .before in
+    let more = start .pre .1 .1 in
+    (search needs, (search needs, table-bounded _ _ _ _ [] _ _ (start .pre .0) (more .2) (more .3) _ (more .0) (c .before .before .before .initialise .ensures)))
 
 cell-requires : tie.Need-cell-requires
 cell-requires c κs = search needs

@@ -10,6 +10,7 @@ use Rattle.network.specs.Words.{netOf}
 use Rattle.network.proofs.Loops.{iter-none, iter-more, iter-done, iter-settled}
 use Rattle.ebf.specs.Table.{round, rounds}
 use Rattle.route.specs.Solver.{netIn, problemOf}
+use Rattle.route.proofs.Steps.{rounds-bounded}
 use borrow.Author.Needs.{needs}
 use Rattle.route.proofs.rounds.rounds.Statement.{statement}
 use Rattle.route.proofs.rounds.rounds.Tie as tie
@@ -29,7 +30,10 @@ loop-holds : tie.Need-loop-holds Inv-loop μ-loop
 loop-holds c = (iter-none _ _, refl, search needs)
 
 round-requires : tie.Need-round-requires Inv-loop μ-loop
-round-requires c κs = search needs
+round-requires c κs =
+    let i = c .before .before .loop .inv in
+    let start = c .before .before .before .before .before .before .before in
+    (search needs, (search needs, rounds-bounded (start .args .p) _ _ _ _ _ (i .0) (start .pre .1 .1)))
 
 same-length : tie.Need-same-length Inv-loop μ-loop
 same-length c = let i = c .before .before .before .before .before .before .loop .inv in c .before .before .before .round .kept .0 ∙ i .1

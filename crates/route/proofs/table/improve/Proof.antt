@@ -1,35 +1,34 @@
 -- `route::table::improve` meets its contract, case by case.
 -- Assumes nothing.
+use mathlib.Core.Path.{refl}
+use mathlib.Core.Bool.{true≢false}
 use native.Mathlib.Omega.{arith}
 use lib.ListN.{length-set}
-use Rattle.route.proofs.Steps.{improved-far, improved-stored, improved-kept, told-on, told-change}
+use Rattle.route.proofs.Steps.{improved-stored, improved-kept}
 use borrow.Author.Needs.{needs}
 use Rattle.route.proofs.table.improve.Statement.{statement}
 use Rattle.route.proofs.table.improve.Tie as tie
 
-mul-near : tie.Need-mul-near
-mul-near c = search needs
+mul-d : tie.Need-mul-d
+mul-d c = search needs
 
-mul-near-2 : tie.Need-mul-near-2
-mul-near-2 c = search needs
+mul-d-2 : tie.Need-mul-d-2
+mul-d-2 c = search needs
 
-slice-read-near : tie.Need-slice-read-near
-slice-read-near c = search needs
-
-returns : tie.Need-returns
-returns c = (improved-far _ _ _ _ _ _ (omega arith), told-on _ _)
+slice-read-d : tie.Need-slice-read-d
+slice-read-d c = search needs
 
 add-d : tie.Need-add-d
 add-d c = search needs
 
-mul-if2 : tie.Need-mul-if2
-mul-if2 c = search needs
+mul-if1 : tie.Need-mul-if1
+mul-if1 c = search needs
 
-mul-if2-2 : tie.Need-mul-if2-2
-mul-if2-2 c = search needs
+mul-if1-2 : tie.Need-mul-if1-2
+mul-if1-2 c = search needs
 
-slice-read-if2 : tie.Need-slice-read-if2
-slice-read-if2 c = search needs
+slice-read-if1 : tie.Need-slice-read-if1
+slice-read-if1 c = search needs
 
 mul-work : tie.Need-mul-work
 mul-work c = search needs
@@ -58,24 +57,23 @@ slice-write-work-2 c = simp length-set (omega arith)
 same-length : tie.Need-same-length
 same-length c = search needs
 
-returns-2 : tie.Need-returns-2
-returns-2 c = (improved-stored _ _ _ _ _ _ (omega arith) (omega arith), told-change _ _ _)
+returns : tie.Need-returns
+returns c = (improved-stored _ _ _ _ _ _ (omega arith) (omega arith), λ e. absurd (true≢false e))
 
-returns-3 : tie.Need-returns-3
-returns-3 c = (improved-kept _ _ _ _ _ _ (omega arith) (omega arith), told-on _ _)
+returns-2 : tie.Need-returns-2
+returns-2 c = (improved-kept _ _ _ _ _ _ (omega arith) (omega arith), λ _. refl)
 
 pub improve-spec : {M : Type 1} → statement M
 improve-spec =
     tie.close
     (tie.spec
-    mul-near
-    mul-near-2
-    slice-read-near
-    returns
+    mul-d
+    mul-d-2
+    slice-read-d
     add-d
-    mul-if2
-    mul-if2-2
-    slice-read-if2
+    mul-if1
+    mul-if1-2
+    slice-read-if1
     mul-work
     mul-work-2
     slice-write-work
@@ -85,5 +83,5 @@ improve-spec =
     mul-work-4
     slice-write-work-2
     same-length
-    returns-2
-    returns-3)
+    returns
+    returns-2)

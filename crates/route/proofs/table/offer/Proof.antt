@@ -1,7 +1,7 @@
 -- `route::table::offer` meets its contract: a link is tried where its flag is 1, and `relax` asks for no flag.
 -- Assumes nothing.
 use mathlib.Core.Path.{_∙_}
-use Rattle.route.proofs.Steps.{offered-unusable, offered-usable, flag-on, flag-off, told-on}
+use Rattle.route.proofs.Steps.{offered-unusable, offered-usable, flag-on, flag-off, own-same}
 use Rattle.route.proofs.Unflagged.{relaxed-unflagged}
 use borrow.Author.Needs.{needs}
 use Rattle.route.proofs.table.offer.Statement.{statement}
@@ -14,7 +14,7 @@ shared-slice-read-if1 : tie.Need-shared-slice-read-if1
 shared-slice-read-if1 c = search needs
 
 returns : tie.Need-returns
-returns c = (offered-unusable _ _ _ _ _ (flag-off _ _ _ _ _ (c .if1 .taken)), told-on _ _)
+returns c = (offered-unusable _ _ _ _ _ (flag-off _ _ _ _ _ (c .if1 .taken)), own-same _ _ _)
 
 relax-requires : tie.Need-relax-requires
 relax-requires c κs = search needs
