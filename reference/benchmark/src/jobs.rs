@@ -41,15 +41,10 @@ impl Job {
     pub fn check(&mut self, implementations: &mut Implementations, outcome: Outcome) -> Result<(), String> {
         for call in [Call::Quote, Call::Admission] {
             let proved = implementations.call(Which::Proved, call, self);
-            let all = implementations.call(Which::AllRounds, call, self);
-            let early = implementations.call(Which::EarlyStop, call, self);
-            let own = implementations.call(Which::OwnStop, call, self);
-            let alike = [&all, &early, &own].iter().all(|plain| agree(&proved, plain));
-            if Outcome::of(&proved) != Some(outcome) || !alike {
-                let request = self.request;
-                return Err(format!(
-                    "answers differ: {request:?}: proved {proved:?}, all rounds {all:?}, early stop {early:?}, own stop {own:?}"
-                ));
+            let plain = [Which::AllRounds, Which::EarlyStop, Which::OwnStop];
+            let plain = plain.map(|which| implementations.call(which, call, self));
+            if Outcome::of(&proved) != Some(outcome) || !plain.iter().all(|plain| agree(&proved, plain)) {
+                return Err(format!("answers differ: {:?}: proved {proved:?}, plain {plain:?}", self.request));
             }
         }
         Ok(())

@@ -1,5 +1,6 @@
-//! The benchmark: how long a quote and an admission with its release take in the proved archive, in a plain Rust search
-//! by the paper's lines with all rounds, with an early stop, and with the proved search's own stop. docs/performance.md has what it prints.
+//! The benchmark: how long a quote and an admission with its release take in the proved archive and in a plain Rust
+//! search by the paper's lines, with all rounds, with an early stop and with the proved search's own stop.
+//! docs/performance.md has what it prints.
 
 mod answer;
 mod goals;

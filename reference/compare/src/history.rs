@@ -23,7 +23,7 @@ struct Outcome {
     bookings: Option<Vec<Entry>>,
 }
 
-/// The contents of every buffer in the second run.
+/// What turns the contents of every buffer into others in the second run.
 const OTHER: u64 = 0x7f4a_7c15_9e37_79b9;
 
 /// Runs a case; what was seen goes into the tally.

@@ -60,7 +60,8 @@ fn left_out(mut case: Case, rules: Rules) -> (Case, Failure) {
 pub fn print(case: &Case, failure: &Failure) {
     println!("failure: seed {}: {}", case.seed, failure.what);
     println!("  the whole case again: compare --case {}", case.seed);
-    println!("  n {}, {} links, an area of {} words", case.n, case.words.len() / 5, case.area.words);
+    let links = case.words.len() / 5;
+    println!("  n {}, {links} links drawn as {:?}, an area of {} words", case.n, case.style, case.area.words);
     for (number, link) in case.words.chunks(5).enumerate() {
         println!(
             "  link {number}: {} -> {}, delay {}, cost {}, capacity {}",

@@ -1,7 +1,7 @@
-//! The exact method for networks with too many paths to list. A label says that a node can be reached with some kept and
-//! some scaled weight. Labels are taken in order of their kept weight from a heap; one whose node was reached before with
-//! no more scaled weight is dropped. The first label of t has the least kept weight. Weights are not negative, so walks
-//! that pass a node twice make no solution lighter.
+//! The exact method for networks with too many paths to list. A label says that a node can be reached with some kept
+//! and some scaled weight. Labels are taken in order of their kept weight from a heap; one whose node was reached before
+//! with no more scaled weight is dropped. The first label of t has the least kept weight. Weights are not negative, so
+//! walks that pass a node twice make no solution lighter.
 
 use crate::problems::Reduced;
 use crate::table::Table;

@@ -1,8 +1,8 @@
 //! class_files PROGRAM FOLDER [COUNT]
 //! class_files --lines FILE LINES
 //!
-//! Runs the class program on COUNT link files (400 where nothing is said), which it writes into FOLDER, and judges what it
-//! prints line by line: refused files and loads, files that are too long, and the six quotes. It exits with 1 where a
+//! Runs the class program on COUNT link files (400 where nothing is said), which it writes into FOLDER, and judges what
+//! it prints line by line: refused files and loads, files that are too long, and the six quotes. It exits with 1 where a
 //! line is not what document 01 says. With `--lines` it judges lines that are stored beside a link file.
 
 use compare::files;

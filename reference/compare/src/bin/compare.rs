@@ -1,9 +1,9 @@
 //! compare [--calls N] [--seed S] [--case S] [--fault NAME] [--faults]
 //!
-//! Makes at least N calls (600,000 where nothing is said) on the archive, in cases of the seeds S, S + 1, .., from 0 where
-//! nothing is said, and compares each with the other implementation. It exits with 0 where all agree and every number of every call has come, 1 at a
-//! failure, which it prints with its seed and its smallest list of calls, and 3 where a number has not come. `--case`
-//! runs one case; `--fault` switches on a deliberate fault; `--faults` lists them.
+//! Makes at least N calls (600,000 where nothing is said) on the archive, in cases of the seeds S, S + 1, .. (from 0
+//! where nothing is said), and compares each with the other implementation. It exits with 0 where all agree and every
+//! number of every call has come, 1 at a failure, which it prints with its seed and its smallest list of calls, and 3
+//! where a number has not come. `--case` runs one case; `--fault` switches on a deliberate fault; `--faults` lists them.
 
 use compare::cases::{case, Case};
 use compare::faults::FAULTS;
