@@ -31,3 +31,10 @@ pub record LinkWords (n m : ℕ) (words : List ℕ) : Type 0 where
   pub to : (i : ℕ) → i < m → field words i 1 < n
   pub delay : (i : ℕ) → i < m → field words i 2 ≤ 1000000
   pub cost : (i : ℕ) → i < m → field words i 3 ≤ 1000000
+
+-- a link table of n nodes and m links
+pub record Links (n m : ℕ) (links : List ℕ) : Type 0 where
+  pub nodes-some : 0 < n
+  pub nodes-most : n ≤ 32
+  pub links-most : m ≤ 256
+  pub words : LinkWords n m links

@@ -21,11 +21,11 @@ use Rattle.network.proofs.Tests.{by-eq, by-lt}
 use Rattle.ebf.specs.Distance.{distance}
 use Rattle.ebf.specs.Solve.{solve}
 use Rattle.ebf.specs.Search.{outcomeOf, orElse, tried, search}
-use Rattle.route.specs.declared.Reduced.{Reduced}
+use Rattle.table.specs.declared.Reduced.{Reduced}
 use Rattle.route.specs.declared.Answer.{Answer}
 use Rattle.route.specs.declared.Answer.the-variants.{NoSolution}
-use Rattle.route.specs.Solver.{problemOf}
-use Rattle.route.specs.Forward.{Columns}
+use Rattle.table.specs.Solver.{problemOf}
+use Rattle.trace.specs.Forward.{Columns}
 use Rattle.route.specs.Answers.{answerOf, pathAfter}
 
 -- ---- columns

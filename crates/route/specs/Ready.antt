@@ -4,16 +4,9 @@ use Prim.Native.Nat.{ℕ, _≤_, _<_}
 use mathlib.Core.Path.{_≡_}
 use mathlib.Core.List.{List}
 use lib.ListN.{length}
-use Rattle.network.specs.Words.{LinkWords}
+use Rattle.network.specs.Words.{Links}
 use Rattle.network.specs.Reduce.{delayBound, costBound}
 use Rattle.network.specs.declared.Request.{Request}
-
--- a link table of n nodes and m links
-pub record Links (n m : ℕ) (links : List ℕ) : Type 0 where
-  pub nodes-some : 0 < n
-  pub nodes-most : n ≤ 32
-  pub links-most : m ≤ 256
-  pub words : LinkWords n m links
 
 pub record Ready (n m : ℕ) (links usable work path : List ℕ) (r : Request) : Type 0 where
   pub table : Links n m links

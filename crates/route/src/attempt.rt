@@ -4,17 +4,17 @@ ghost use Prim.Native.Nat.{_≤_, _<_};
 ghost use lib.ListN.{length};
 ghost use Rattle.ebf.specs.Solve.{solve};
 ghost use Rattle.ebf.specs.Search.{outcomeOf};
-ghost use Rattle.route.specs.Solver.{Sound, netIn, problemOf};
-ghost use Rattle.route.specs.Forward.{Columns};
+ghost use Rattle.table.specs.Solver.{Sound, netIn, problemOf};
+ghost use Rattle.trace.specs.Forward.{Columns};
 ghost use Rattle.route.specs.Answers.{answerOf, pathAfter};
 use crate::Answer;
 use crate::Grant;
-use crate::Reduced;
-use crate::path::forward;
-use crate::rounds::rounds;
-use crate::table::cell;
-use crate::table::initialise;
-use crate::trace::trace;
+use table::Reduced;
+use trace::path::forward;
+use relaxation::rounds::rounds;
+use table::table::cell;
+use table::table::initialise;
+use trace::trace::trace;
 
 // Problem `which`: `kept` is the column of the weight that is kept, `scaled` that of the other one scaled.
 pub fn attempt(

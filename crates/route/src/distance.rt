@@ -4,7 +4,7 @@ ghost use Prim.Native.Nat.{_≤_, _<_};
 ghost use lib.ListN.{length};
 ghost use Rattle.network.specs.Words.{netOf};
 ghost use Rattle.ebf.specs.Distance.{spreadLink, spread, distance};
-ghost use Rattle.route.specs.Ready.{Links};
+ghost use Rattle.network.specs.Words.{Links};
 use network::link;
 use network::node_set;
 

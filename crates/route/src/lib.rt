@@ -11,42 +11,12 @@ ghost use Rattle.route.specs.Ready.{Ready};
 
 mod attempt;
 mod distance;
-mod path;
 mod problems;
-mod rounds;
-mod table;
-mod trace;
-mod weights;
 
 use crate::distance::distance;
 use crate::problems::both_problems;
 use network::Request;
 use network::link;
-
-// The numbers of one reduced problem: how many nodes and links, the bound x of the scaled weight and the bound
-// of the kept weight.
-pub struct Reduced {
-    pub nodes: usize,
-    pub links: usize,
-    pub x: usize,
-    pub bound: u32,
-}
-
-// A link as a relaxation uses it: its ends, its kept weight and its scaled weight.
-pub struct Hop {
-    pub tail: usize,
-    pub head: usize,
-    pub weight: u32,
-    pub step: usize,
-}
-
-// How far a path has come: the node, and the links, the delay and the cost so far.
-pub struct Leg {
-    pub node: usize,
-    pub links: usize,
-    pub delay: u32,
-    pub cost: u32,
-}
 
 // A granted path: the problem that granted it, 1 or 2, its delay, its cost and its number of links.
 pub struct Grant {
