@@ -18,8 +18,8 @@ use Rattle.route.specs.Ready.{Ready}
 use Rattle.area.specs.Station.{tableIn, station, wordsAt}
 use Rattle.area.specs.Books.{books, net, free}
 use Rattle.area.specs.Formed.{WellFormed, wellFormed, TableFits}
-use Rattle.station.specs.Reads.{freeIn}
-use Rattle.station.specs.Units.{flag}
+use Rattle.area_check.specs.FreeIn.{freeIn}
+use Rattle.station.specs.Usable.{flag}
 use Rattle.area.proofs.Formed.{formed-says}
 use Rattle.area.proofs.WordsAt.{words-length}
 use Rattle.booking.specs.Requests.{RequestFits}

@@ -8,7 +8,7 @@ use lib.ListN.{length, getD}
 use Rattle.network.specs.declared.Request.{Request}
 use Rattle.area.specs.Station.{nodesIn}
 use Rattle.area.specs.Formed.{wellFormed}
-use Rattle.station.specs.Reads.{freeIn}
+use Rattle.area_check.specs.FreeIn.{freeIn}
 use Rattle.booking.specs.Requests.{requestFits}
 
 pub record Seekable (w free work path : List ℕ) (r : Request) : Type 0 where

@@ -8,12 +8,12 @@ use crate::Answer;
 use crate::checks::refusal;
 use crate::request::number_fits;
 use crate::seek::seek;
-use area::held::find;
-use area::layout;
-use area::store;
+use circuit_store::held::find;
+use area_words::layout;
+use circuit_store::store;
 use network::Request;
 use network::link;
-use station::check::check;
+use area_check::check::check;
 
 // Most circuits held.
 const CIRCUITS: u32 = 64;

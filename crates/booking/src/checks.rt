@@ -4,7 +4,7 @@ ghost use Rattle.area.specs.Formed.{wellFormed};
 ghost use Rattle.area.specs.Checks.{firstFailing};
 ghost use Rattle.booking.specs.Calls.{quoteChecks};
 use crate::request::request_fits;
-use area::layout;
+use area_words::layout;
 use network::Request;
 
 // The least lengths of work memory and of a path buffer.

@@ -4,9 +4,9 @@ ghost use mathlib.Core.Bool.{true};
 ghost use Rattle.area.specs.Formed.{wellFormed};
 ghost use Rattle.booking.specs.Requests.{requestFits};
 ghost use Rattle.booking.specs.Calls.{booksIn, numberFits};
-use area::held::find;
-use area::layout;
-use area::range::in_range;
+use circuit_store::held::find;
+use area_words::layout;
+use area_words::range::in_range;
 use network::Request;
 use network::link;
 

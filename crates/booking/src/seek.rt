@@ -4,7 +4,7 @@ ghost use Rattle.booking.specs.Replies.{told, answerOf, pathAfter};
 ghost use Rattle.booking.specs.Calls.{booksIn, sought};
 ghost use Rattle.booking.specs.Ready.{Seekable};
 use crate::Answer;
-use area::layout;
+use area_words::layout;
 use network::Request;
 use network::link;
 use station::usable::usable;

@@ -1,7 +1,7 @@
 // The bookings and the free units at the end.
 ghost use Prim.Native.Nat.{_<_, _≤_};
 use crate::show;
-use area::layout;
+use area_words::layout;
 use network::link;
 use station::reads;
 

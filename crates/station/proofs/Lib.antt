@@ -1,10 +1,4 @@
-pub mod LinkTest
 pub mod Loads
 pub mod LoadCases
-pub mod Onward
-pub mod CircuitCases
-pub mod Taken
-pub mod CircuitUnits
-pub mod CheckCases
 pub mod ReadCases
 pub mod Depends

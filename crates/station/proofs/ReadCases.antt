@@ -12,7 +12,8 @@ use Rattle.station.specs.declared.Reading.the-variants.{Refused, Value}
 use Rattle.area.specs.Station.{station, tableIn}
 use Rattle.area.specs.Held.{numbersFrom}
 use Rattle.area.specs.Formed.{WellFormed, wellFormed}
-use Rattle.station.specs.Reads.{listAnswer, listed, Lists, freeAnswer, freeIn}
+use Rattle.station.specs.Reads.{listAnswer, listed, Lists, freeAnswer}
+use Rattle.area_check.specs.FreeIn.{freeIn}
 use Rattle.area.proofs.Found.{held-length, listing-means}
 use Rattle.area.proofs.Formed.{formed-says}
 

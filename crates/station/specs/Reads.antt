@@ -35,8 +35,3 @@ Lists w = wellFormed w ≡ true → ListsHeld (station w .held) (numbersFrom w 0
 unfoldable pub freeAnswer : List ℕ → ℕ → Reading
 unfolding wellFormed station
 freeAnswer w i = checked Refused ((5 unless wellFormed w) ∷ (15 unless ltb i (linksIn w)) ∷ []) (Value (free (station w) i))
-
--- what the check of an area gives besides: each link's free units; 0 for every link of an area that is not well formed
-unfoldable pub freeIn : List ℕ → ℕ → ℕ
-unfolding wellFormed station
-freeIn w i = cond (wellFormed w) (free (station w) i) 0

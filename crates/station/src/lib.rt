@@ -1,14 +1,7 @@
-// The calls of document 01 that need no search: load, listing and free units; and the check that an area is well formed,
-// which every call but Load begins with, with each link's free units and the flags of usable links.
-//
-// The calls `load`, `list` and `free_units`, and `check` and `usable`, take anything. What the functions below them
-// require, their callers have checked.
-pub mod check;
-mod circuits;
+// The calls of document 01 that need no search: load, listing and free units; and the flags of usable links. They take
+// anything; what the functions below them require, their callers have checked.
 pub mod load;
 pub mod reads;
-mod table;
-mod units;
 pub mod usable;
 
 // What Load answers: document 01's number, or accepted.
@@ -21,10 +14,4 @@ pub enum Loading {
 pub enum Reading {
     Refused(u32),
     Value(u32),
-}
-
-// What the check of an area gives: whether it is well formed, and then each link's free units.
-pub struct Checked {
-    pub formed: bool,
-    pub free: [u32; 256],
 }

@@ -3,9 +3,9 @@ ghost use mathlib.Core.Path.{_≡_};
 ghost use lib.ListN.{length};
 ghost use Rattle.station.specs.Load.{loadAnswer, areaLoaded};
 use crate::Loading;
-use crate::table::links_fit;
-use area::layout;
-use area::range::in_range;
+use area_fit::table::links_fit;
+use area_words::layout;
+use area_words::range::in_range;
 
 // 1, 2, 3 and 4 in this order; else n, m, 0 and the links are written, and all other words keep their contents.
 pub fn load(n: u32, links: &[u32], area: &mut [u32]) -> Loading

@@ -5,10 +5,10 @@ ghost use Prim.Native.Nat.{_≤_};
 ghost use lib.ListN.{length, drop};
 ghost use Rattle.area.specs.Held.{numbersFrom};
 ghost use Rattle.station.specs.Reads.{listAnswer, listed, Lists, freeAnswer};
-ghost use Rattle.station.specs.Ready.{Room};
+ghost use Rattle.area_fit.specs.Ready.{Room};
 use crate::Reading;
-use crate::check::check;
-use area::layout;
+use area_check::check::check;
+use area_words::layout;
 use network::link;
 
 // The numbers of the first `h` circuits.

@@ -2,7 +2,7 @@
 ghost use mathlib.Core.Path.{_≡_};
 ghost use Prim.Native.Nat.{ℕ, _<_};
 ghost use lib.ListN.{getD};
-ghost use Rattle.station.specs.Units.{flag};
+ghost use Rattle.station.specs.Usable.{flag};
 
 // 1 where the free units are enough, else 0.
 fn flag(units: u32, free: u32) -> u32

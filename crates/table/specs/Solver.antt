@@ -7,10 +7,8 @@ use mathlib.Core.List.{List, []}
 use lib.ListN.{length, getD}
 use Rattle.network.specs.Net.{Net}
 use Rattle.network.specs.Problem.{Problem}
-use Rattle.ebf.specs.declared.Trail.{Trail}
 use Rattle.ebf.specs.Table.{cell, number}
 use Rattle.network.specs.Words.{field, netOf}
-use Rattle.relaxation.specs.declared.Hop.{Hop}
 use Rattle.table.specs.declared.Reduced.{Reduced}
 use Rattle.network.specs.Words.{Links}
 

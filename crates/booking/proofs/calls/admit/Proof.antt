@@ -8,7 +8,7 @@ use borrow.Author.Tests.{not-true, not-false}
 use denote.Enum.Declared.{tagOf}
 use lib.ListN.{length}
 use Rattle.station.proofs.ReadCases.{formed-long}
-use Rattle.station.proofs.CircuitCases.{part-length}
+use Rattle.area_fit.proofs.CircuitCases.{part-length}
 use Rattle.booking.specs.Calls.{booksIn, sought}
 use Rattle.booking.proofs.Answer.{the-type}
 use Rattle.booking.proofs.CallCases.{all-passed, admission-refused, fails-11, fails-12, searches}

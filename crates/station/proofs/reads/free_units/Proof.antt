@@ -8,7 +8,7 @@ use borrow.Author.Needs.{needs}
 use borrow.Author.Tests.{not-true, not-false}
 use lib.ListN.{getD}
 use Rattle.station.specs.declared.Reading.the-variants.{Value}
-use Rattle.station.specs.Reads.{freeIn}
+use Rattle.area_check.specs.FreeIn.{freeIn}
 use Rattle.station.proofs.ReadCases.{formed-long, formed-links, free-unfit, free-past, free-value}
 use Rattle.station.proofs.reads.free_units.Statement.{statement}
 use Rattle.station.proofs.reads.free_units.Tie as tie

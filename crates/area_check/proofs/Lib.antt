@@ -1,0 +1,3 @@
+pub mod Taken
+pub mod CircuitUnits
+pub mod CheckCases

@@ -1,0 +1,3 @@
+pub mod LinkTest
+pub mod Onward
+pub mod CircuitCases
