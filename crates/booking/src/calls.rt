@@ -1,13 +1,13 @@
 // Quote, admission and release.
 ghost use mathlib.Core.Path.{_≡_};
 ghost use lib.ListN.{length};
-ghost use Rattle.booking.specs.Replies.{answerOf, pathAfter};
-ghost use Rattle.booking.specs.Calls.{quote, admission, booked, release, cleared};
-ghost use Rattle.booking.specs.Meaning.{Quoted, Admitted, Cleared};
-use crate::Answer;
-use crate::checks::refusal;
-use crate::request::number_fits;
-use crate::seek::seek;
+ghost use Rattle.rules.specs.Replies.{answerOf, pathAfter};
+ghost use Rattle.rules.specs.Calls.{quote, admission, booked, release, cleared};
+ghost use Rattle.rules.specs.Meaning.{Quoted, Admitted, Cleared};
+use rules::Answer;
+use request_checks::checks::refusal;
+use request_checks::request::number_fits;
+use seek::seek::seek;
 use circuit_store::held::find;
 use area_words::layout;
 use circuit_store::store;

@@ -1,18 +1,6 @@
 // The booking calls of document 01: quote, admission and release. This is the upper crate: it uses the route search by
-// its stated result alone and reads none of its tables, and it uses the area through `station`.
+// its stated result alone and reads none of its tables.
 //
 // The calls take anything: any words, any lengths, any numbers. Each checks in document 01's order and refuses by the
 // first number that applies; a refusal changes nothing but work memory, which is open after any call that takes it.
 pub mod calls;
-mod checks;
-mod request;
-mod seek;
-
-use route::Grant;
-
-// What a call answers: document 01's number; a granted path's problem, delay, cost and number of links; or released.
-pub enum Answer {
-    Refused(u32),
-    Granted(Grant),
-    Released,
-}

@@ -16,9 +16,9 @@ use Rattle.area.proofs.Checks.{all-pass}
 use Rattle.classes.specs.declared.Service.{Service}
 use Rattle.classes.specs.declared.Answer.the-variants as asked
 use Rattle.classes.specs.Classes.{classAnswer}
-use Rattle.booking.specs.declared.Answer.the-variants.{Refused, Granted, Released}
-use Rattle.booking.specs.Replies.{Reply, refuses, grants, releases, answerOf, replyOf, pathAfter}
-use Rattle.booking.specs.Calls.{booksIn, quoteChecks, sought, quote}
+use Rattle.rules.specs.declared.Answer.the-variants.{Refused, Granted, Released}
+use Rattle.rules.specs.Replies.{Reply, refuses, grants, releases, answerOf, replyOf, pathAfter}
+use Rattle.rules.specs.Calls.{booksIn, quoteChecks, sought, quote}
 use Rattle.class_lines.specs.Lines.{line, replyLine, requestOf, quoteLine, answeredLine, classLine}
 
 -- ---- a quote's reply

@@ -2,7 +2,7 @@
 -- Assumes nothing.
 use Prim.Native.Nat.{ℕ}
 use mathlib.Core.List.{List, [], _∷_}
-use Rattle.booking.specs.Replies.{Reply, refuses, grants}
+use Rattle.rules.specs.Replies.{Reply, refuses, grants}
 
 -- a class, its reply and its line
 pub record Sample : Type 0 where

@@ -7,8 +7,8 @@ use Rattle.classes.specs.declared.Service.{Service}
 use Rattle.classes.specs.declared.Answer.{Answer}
 use Rattle.classes.specs.declared.Answer.the-variants.{Refused, Row}
 use Rattle.classes.specs.Classes.{classAnswer}
-use Rattle.booking.specs.Replies.{Reply, refuses, grants, releases}
-use Rattle.booking.specs.Calls.{quote}
+use Rattle.rules.specs.Replies.{Reply, refuses, grants, releases}
+use Rattle.rules.specs.Calls.{quote}
 use Rattle.text.specs.Decimal.{decimal}
 use Rattle.text.specs.Fields.{fields}
 

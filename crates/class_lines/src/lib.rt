@@ -6,7 +6,7 @@ ghost use Prim.Native.Nat.{_+_, _≤_};
 ghost use lib.ListN.{length};
 ghost use lib.Seq.{sets};
 ghost use Rattle.class_lines.specs.Lines.{line, requestOf, quoteLine, classLine, lines};
-use booking::Answer;
+use rules::Answer;
 use booking::calls::quote;
 use classes::Service;
 use network::Request;

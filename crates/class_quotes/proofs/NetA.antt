@@ -13,7 +13,7 @@ use Rattle.ebf.specs.Solve.{pathIn, answerIn, solveIn, solve}
 use Rattle.ebf.specs.Distance.{spread, layer, distance}
 use Rattle.ebf.specs.Search.{tried, search}
 use Rattle.area.specs.Station.{tableIn, circuitOf}
-use Rattle.link_file.specs.Reading.{wordAt, signed, fills}
+use Rattle.link_format.specs.Reading.{wordAt, signed, fills}
 use Rattle.class_quotes.specs.Output.{fileOutput, output}
 use Rattle.class_quotes.specs.NetA.{fileFor, netAFile, netALines, fileSeventeen, loadTwo}
 

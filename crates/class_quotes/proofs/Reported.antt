@@ -12,10 +12,10 @@ use Rattle.area.specs.Station.{Station}
 use Rattle.station.specs.declared.Loading.the-variants as loading
 use Rattle.station.specs.Load.{loadAnswer, areaLoaded}
 use Rattle.station.proofs.Loads.{accepted-station, accepted-formed}
-use Rattle.link_file.specs.declared.Size.{Size}
-use Rattle.link_file.specs.declared.Reading.the-variants as reading
-use Rattle.link_file.specs.Reading.{readAnswer, recordWords, tableRead, linksIn}
-use Rattle.link_file.proofs.Accepted.{records-length, size-read, table-accepted}
+use Rattle.link_format.specs.declared.Size.{Size}
+use Rattle.link_format.specs.declared.Reading.the-variants as reading
+use Rattle.link_format.specs.Reading.{readAnswer, recordWords, tableRead, linksIn}
+use Rattle.link_format.proofs.Accepted.{records-length, size-read, table-accepted}
 use Rattle.text.specs.Fields.{field, fields}
 use Rattle.text.proofs.Puts.{Put, put-behind, no-fields, more-fields}
 use Rattle.class_lines.specs.Lines.{lines}

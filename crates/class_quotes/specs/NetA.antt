@@ -2,7 +2,7 @@
 -- Assumes nothing.
 use Prim.Native.Nat.{ℕ}
 use mathlib.Core.List.{List, [], _∷_, _++_}
-use Rattle.link_file.specs.Format.{bytesOfAll, trailer}
+use Rattle.link_format.specs.Format.{bytesOfAll, trailer}
 
 -- ---- the file: four links, each from, to, delay, cost, capacity; no notes; four nodes
 abbrev pub netALinks : List ℕ

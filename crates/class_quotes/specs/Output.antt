@@ -8,9 +8,9 @@ use lib.ListN.{length, replicate}
 use Rattle.station.specs.declared.Loading.{Loading}
 use Rattle.station.specs.declared.Loading.the-variants as loading
 use Rattle.station.specs.Load.{loadAnswer, areaLoaded}
-use Rattle.link_file.specs.declared.Reading.{Reading}
-use Rattle.link_file.specs.declared.Reading.the-variants as reading
-use Rattle.link_file.specs.Reading.{readAnswer, recordWords}
+use Rattle.link_format.specs.declared.Reading.{Reading}
+use Rattle.link_format.specs.declared.Reading.the-variants as reading
+use Rattle.link_format.specs.Reading.{readAnswer, recordWords}
 use Rattle.text.specs.Fields.{fields}
 use Rattle.class_lines.specs.Lines.{lines}
 

@@ -6,7 +6,7 @@ ghost use lib.Seq.{sets};
 ghost use Rattle.io.specs.Counts.{Counts};
 ghost use Rattle.class_quotes.specs.Output.{refusal, loadOutput, fileOutput, output};
 use class_lines::put_lines;
-use link_file::Reading;
+use link_format::Reading;
 use network::link;
 use station::Loading;
 use station::load::load;

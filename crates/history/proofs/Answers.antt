@@ -20,7 +20,7 @@ use Rattle.area.specs.Station.{tableIn, circuitOf}
 use Rattle.area.specs.Order.{Same, next}
 use Rattle.station.specs.declared.Loading.the-variants.{Loaded}
 use Rattle.station.specs.Load.{loadAnswer, areaLoaded}
-use Rattle.booking.specs.Calls.{quote, admission, booked, release, cleared}
+use Rattle.rules.specs.Calls.{quote, admission, booked, release, cleared}
 use Rattle.ledger.specs.History.{answers, given, bookings, remaining}
 use Rattle.ledger.proofs.Striking.{none-struck, all-remain}
 use Rattle.ledger.proofs.Demands.{third-demand}

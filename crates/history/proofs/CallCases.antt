@@ -11,9 +11,9 @@ use lib.ListN.{length, getD, take, replicate}
 use Rattle.network.specs.declared.Request.{Request}
 use Rattle.network.proofs.Tests.{by-bool}
 use Rattle.area.specs.Formed.{wellFormed}
-use Rattle.booking.specs.declared.Answer.{Answer}
-use Rattle.booking.specs.Replies.{answerOf, pathAfter}
-use Rattle.booking.specs.Calls.{booksIn, quote, admission, booked, release, cleared}
+use Rattle.rules.specs.declared.Answer.{Answer}
+use Rattle.rules.specs.Replies.{answerOf, pathAfter}
+use Rattle.rules.specs.Calls.{booksIn, quote, admission, booked, release, cleared}
 use Rattle.ledger.specs.History.{Lending, replyTo, areaAfter, areaAtEnd}
 use Rattle.history.specs.Calls.{rows, kindOf, isQuote, requestOf, callOf, workLent, pathLent, rubbish, filler, workWords, pathWords, lent, callAt, callsFrom}
 

@@ -4,7 +4,7 @@ use Prim.Native.Nat.{ℕ}
 use mathlib.Core.List.{List, [], _∷_}
 use lib.ListN.{length}
 use Rattle.area.specs.Station.{Circuit}
-use Rattle.booking.specs.declared.Answer.the-variants.{Refused, Granted, Released}
+use Rattle.rules.specs.declared.Answer.the-variants.{Refused, Granted, Released}
 use Rattle.ledger.specs.History.{Given}
 
 abbrev refused : ℕ → Given

@@ -1,7 +1,7 @@
 // The list of calls, and each of them made and printed.
 ghost use mathlib.Core.Path.{_≡_};
 ghost use Prim.Native.Nat.{_<_};
-ghost use Rattle.booking.specs.Replies.{answerOf, pathAfter};
+ghost use Rattle.rules.specs.Replies.{answerOf, pathAfter};
 ghost use Rattle.ledger.specs.History.{replyTo, areaAfter, areaAtEnd};
 ghost use Rattle.history.specs.Calls.{requestOf, callOf, lent, callAt, calls};
 use crate::kinds;
@@ -11,7 +11,7 @@ use crate::kinds::RELEASE;
 use crate::kinds::SHORT_PATH;
 use crate::kinds::SHORT_WORK;
 use crate::show;
-use booking::Answer;
+use rules::Answer;
 use booking::calls;
 use network::Request;
 use network::link;

@@ -1,5 +1,5 @@
 // What the program prints: numbers, answers, and readings of the area.
-use booking::Answer;
+use rules::Answer;
 use route::Grant;
 use station::Reading;
 

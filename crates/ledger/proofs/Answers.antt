@@ -6,8 +6,8 @@ use mathlib.Core.Path.{_≡_, sym, ap, _∙_}
 use mathlib.Core.List.{List, [], _∷_, _++_}
 use mathlib.Core.Logic.{inl, inr, _↔_}
 use Rattle.network.specs.Lists.{All}
-use Rattle.booking.specs.Replies.{Reply, refuses}
-use Rattle.booking.specs.Rules.{Rule, Answered}
+use Rattle.rules.specs.Replies.{Reply, refuses}
+use Rattle.rules.specs.Rules.{Rule, Answered}
 use Rattle.ledger.specs.Ledger.{FirstApplies}
 use Rattle.ledger.specs.Sentences.{IsRefused, Passes}
 

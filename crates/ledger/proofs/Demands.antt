@@ -14,10 +14,10 @@ use Rattle.area.proofs.Order.{agrees-eq, agrees-next, agrees-sym}
 use Rattle.station.specs.declared.Loading.the-variants.{Loaded}
 use Rattle.station.specs.Load.{loadAnswer, areaLoaded}
 use Rattle.station.proofs.Loads.{accepted-station, accepted-formed}
-use Rattle.booking.specs.Replies.{Reply}
-use Rattle.booking.specs.Calls.{quote, admission}
-use Rattle.booking.specs.Meaning.{netFor}
-use Rattle.booking.proofs.Meaning.{quote-means, admission-means}
+use Rattle.rules.specs.Replies.{Reply}
+use Rattle.rules.specs.Calls.{quote, admission}
+use Rattle.rules.specs.Meaning.{netFor}
+use Rattle.rules.proofs.Meaning.{quote-means, admission-means}
 use Rattle.ledger.specs.Ledger.{Call, opened}
 use Rattle.ledger.specs.History.{Lending, history}
 use Rattle.ledger.specs.Demand.{PathsGranted, Throughout, ThirdDemand, SecondDemand}

@@ -6,7 +6,7 @@ use mathlib.Core.Path.{_≡_, refl, sym, ap, _∙_}
 use mathlib.Core.List.{List, []}
 use lib.ListN.{length, drop}
 use lib.Seq.{take-append-seam}
-use Rattle.booking.specs.Replies.{Reply, refuses, grants, releases, answerOf}
+use Rattle.rules.specs.Replies.{Reply, refuses, grants, releases, answerOf}
 use Rattle.ledger.specs.History.{Given, given}
 
 abbrev pathOf : Reply → List ℕ

@@ -10,12 +10,12 @@ use Rattle.network.specs.Lists.{All}
 use Rattle.network.specs.declared.Request.{Request}
 use Rattle.area.specs.Books.{Books, books}
 use Rattle.area.proofs.Keeps.{unheld-stays}
-use Rattle.booking.specs.Calls.{booksIn}
-use Rattle.booking.specs.Requests.{RequestFits}
-use Rattle.booking.specs.Replies.{Reply, refuses, grants}
-use Rattle.booking.specs.Rules.{Rule, Answered, Grant, requestRules, numberRules, searchRules}
-use Rattle.booking.specs.Meaning.{quoteRules, netFor}
-use Rattle.booking.proofs.Passed.{granted-not-refused, released-not-refused}
+use Rattle.rules.specs.Calls.{booksIn}
+use Rattle.rules.specs.Requests.{RequestFits}
+use Rattle.rules.specs.Replies.{Reply, refuses, grants}
+use Rattle.rules.specs.Rules.{Rule, Answered, Grant, requestRules, numberRules, searchRules}
+use Rattle.rules.specs.Meaning.{quoteRules, netFor}
+use Rattle.rules.proofs.Passed.{granted-not-refused, released-not-refused}
 use Rattle.ledger.specs.Ledger.{Call, quoting, admitting, releasing, told, Ledger, seen, checks, rules, Refuses, Grants, moved}
 use Rattle.ledger.specs.Sentences.{IsRefused, IsGranted, Passes, Solvable, Overqualifies, OfRequest}
 use Rattle.ledger.specs.Demand.{PathsGranted}

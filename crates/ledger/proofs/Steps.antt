@@ -17,13 +17,13 @@ use Rattle.area.specs.Order.{Agrees}
 use Rattle.area.proofs.Formed.{formed-test}
 use Rattle.area.proofs.Keeps.{unheld-stays}
 use Rattle.area.proofs.Order.{agrees-refl, agrees-eq, books-agree}
-use Rattle.booking.specs.Replies.{Reply, refuses, grants, releases}
-use Rattle.booking.specs.Calls.{quote, admission, booked, release, cleared, booksIn}
-use Rattle.booking.specs.Rules.{Rule, _when_, Answered}
-use Rattle.booking.proofs.Passed.{granted-not-refused, released-not-refused}
-use Rattle.booking.proofs.Meaning.{quote-means, admission-means, release-means}
-use Rattle.booking.proofs.Bookings.{admitted-station, admitted-formed, released-station, released-formed}
-use Rattle.booking.proofs.Depends.{quote-depends, admission-depends, release-depends}
+use Rattle.rules.specs.Replies.{Reply, refuses, grants, releases}
+use Rattle.rules.specs.Calls.{quote, admission, booked, release, cleared, booksIn}
+use Rattle.rules.specs.Rules.{Rule, _when_, Answered}
+use Rattle.rules.proofs.Passed.{granted-not-refused, released-not-refused}
+use Rattle.rules.proofs.Meaning.{quote-means, admission-means, release-means}
+use Rattle.rules.proofs.Bookings.{admitted-station, admitted-formed, released-station, released-formed}
+use Rattle.rules.proofs.Depends.{quote-depends, admission-depends, release-depends}
 use Rattle.ledger.specs.Ledger.{Call, quoting, admitting, releasing, told, rules, Grants, moved}
 use Rattle.ledger.specs.History.{Lending, measured, replyTo, areaAfter}
 

@@ -14,7 +14,7 @@ use Rattle.area.specs.Books.{Books}
 use Rattle.area.specs.Order.{Same}
 use Rattle.station.specs.declared.Loading.the-variants.{Loaded}
 use Rattle.station.specs.Load.{loadAnswer, areaLoaded}
-use Rattle.booking.specs.Replies.{Reply, refuses, grants}
+use Rattle.rules.specs.Replies.{Reply, refuses, grants}
 use Rattle.ledger.specs.Ledger.{Call, opened, checks, Refuses, Grants}
 use Rattle.ledger.specs.History.{Lending, history, answers, areaAtEnd, bookings, atEnd, Struck, remaining}
 use Rattle.ledger.specs.Sentences.{IsRefused, IsGranted, Passes, Solvable, Overqualifies, AtEvery, OfRequest}

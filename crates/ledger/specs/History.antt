@@ -7,10 +7,10 @@ use mathlib.Core.List.{List, [], _∷_}
 use lib.ListN.{length, take}
 use Rattle.network.specs.declared.Request.{Request}
 use Rattle.area.specs.Station.{Circuit, station}
-use Rattle.booking.specs.declared.Answer.{Answer}
-use Rattle.booking.specs.declared.Answer.the-variants.{Refused, Granted, Released}
-use Rattle.booking.specs.Replies.{Reply, answerOf, pathAfter}
-use Rattle.booking.specs.Calls.{quote, admission, booked, release, cleared}
+use Rattle.rules.specs.declared.Answer.{Answer}
+use Rattle.rules.specs.declared.Answer.the-variants.{Refused, Granted, Released}
+use Rattle.rules.specs.Replies.{Reply, answerOf, pathAfter}
+use Rattle.rules.specs.Calls.{quote, admission, booked, release, cleared}
 use Rattle.ledger.specs.Ledger.{Call, quoting, admitting, releasing, told, Ledger, moved}
 
 -- a call with the words that it is lent, as they stand before it

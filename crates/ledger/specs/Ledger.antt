@@ -13,8 +13,8 @@ use Rattle.area.specs.Station.{Circuit, Station}
 use Rattle.area.specs.Books.{Books, net}
 use Rattle.area.specs.Moves.{withCircuit, withoutNumber}
 use Rattle.station.specs.Load.{tableOf}
-use Rattle.booking.specs.Replies.{Reply, refuses, grants, releases}
-use Rattle.booking.specs.Rules.{Rule, Grant, requestRules, numberRules, searchRules, releaseRules}
+use Rattle.rules.specs.Replies.{Reply, refuses, grants, releases}
+use Rattle.rules.specs.Rules.{Rule, Grant, requestRules, numberRules, searchRules, releaseRules}
 
 -- ---- what it is fed
 -- A call: its numbers and, where it takes them, work memory and path buffer. The ledger is fed the lengths of these

@@ -10,8 +10,8 @@ use Rattle.network.specs.Problem.{Solves, Distance}
 use Rattle.network.specs.Reduce.{one, two, Enough}
 use Rattle.network.specs.declared.Request.{Request}
 use Rattle.area.specs.Books.{Books, books}
-use Rattle.booking.specs.Replies.{Reply, refuses, grants}
-use Rattle.booking.specs.Rules.{Rule}
+use Rattle.rules.specs.Replies.{Reply, refuses, grants}
+use Rattle.rules.specs.Rules.{Rule}
 use Rattle.ledger.specs.Ledger.{Call, quoting, admitting, releasing, Ledger, seen}
 use Rattle.ledger.specs.History.{Event, after}
 

@@ -28,12 +28,12 @@ use Rattle.station.specs.Reads.{listChecks, listAnswer, freeAnswer}
 use Rattle.classes.specs.declared.Answer.{Answer as ClassAnswer}
 use Rattle.classes.specs.declared.Answer.the-variants as class
 use Rattle.classes.specs.Classes.{asks, rows, classAnswer}
-use Rattle.link_file.specs.declared.Size.{Size}
-use Rattle.link_file.specs.declared.Reading.{Reading as FileReading}
-use Rattle.link_file.specs.declared.Reading.the-variants as file
-use Rattle.link_file.specs.Reading.{readChecks, readAnswer, linksIn as fileLinks, nodesIn}
-use Rattle.booking.specs.Replies.{Reply, refuses, grants, releases, answerOf, replyOf}
-use Rattle.booking.specs.Calls.{booksIn, sought, quoteChecks, admitChecks, releaseChecks, quote, admission, release}
+use Rattle.link_format.specs.declared.Size.{Size}
+use Rattle.link_format.specs.declared.Reading.{Reading as FileReading}
+use Rattle.link_format.specs.declared.Reading.the-variants as file
+use Rattle.link_format.specs.Reading.{readChecks, readAnswer, linksIn as fileLinks, nodesIn}
+use Rattle.rules.specs.Replies.{Reply, refuses, grants, releases, answerOf, replyOf}
+use Rattle.rules.specs.Calls.{booksIn, sought, quoteChecks, admitChecks, releaseChecks, quote, admission, release}
 use Rattle.line.specs.Codes.{answerCode, loadCode, readingCode, classCode, fileCode}
 
 -- ---- a list of checks

@@ -8,12 +8,12 @@ use Rattle.station.specs.declared.Loading.{Loading}
 use Rattle.station.specs.declared.Loading.the-variants as loading
 use Rattle.station.specs.declared.Reading.{Reading}
 use Rattle.station.specs.declared.Reading.the-variants as reading
-use Rattle.booking.specs.declared.Answer.{Answer}
-use Rattle.booking.specs.declared.Answer.the-variants as answer
+use Rattle.rules.specs.declared.Answer.{Answer}
+use Rattle.rules.specs.declared.Answer.the-variants as answer
 use Rattle.classes.specs.declared.Answer.{Answer as ClassAnswer}
 use Rattle.classes.specs.declared.Answer.the-variants as class
-use Rattle.link_file.specs.declared.Reading.{Reading as FileReading}
-use Rattle.link_file.specs.declared.Reading.the-variants as file
+use Rattle.link_format.specs.declared.Reading.{Reading as FileReading}
+use Rattle.link_format.specs.declared.Reading.the-variants as file
 
 -- the request of the numbers in the order of the C parameters
 abbrev pub asked : ℕ → ℕ → ℕ → ℕ → ℕ → ℕ → Request

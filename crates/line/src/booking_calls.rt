@@ -1,11 +1,11 @@
 // Quote, admission and release.
 ghost use mathlib.Core.Path.{_≡_};
 ghost use lib.ListN.{length};
-ghost use Rattle.booking.specs.Replies.{answerOf, pathAfter};
-ghost use Rattle.booking.specs.Calls.{quote, admission, booked, release, cleared};
-ghost use Rattle.booking.specs.Meaning.{Quoted, Admitted, Cleared};
+ghost use Rattle.rules.specs.Replies.{answerOf, pathAfter};
+ghost use Rattle.rules.specs.Calls.{quote, admission, booked, release, cleared};
+ghost use Rattle.rules.specs.Meaning.{Quoted, Admitted, Cleared};
 ghost use Rattle.line.specs.Codes.{asked, answerCode, grantWords};
-use booking::Answer;
+use rules::Answer;
 use booking::calls;
 use network::Request;
 

@@ -2,10 +2,10 @@
 ghost use mathlib.Core.Path.{_≡_};
 ghost use lib.ListN.{length};
 ghost use Rattle.classes.specs.Classes.{classAnswer};
-ghost use Rattle.link_file.specs.Reading.{readAnswer, tableRead};
+ghost use Rattle.link_format.specs.Reading.{readAnswer, tableRead};
 ghost use Rattle.line.specs.Codes.{classCode, rowWords, fileCode, sizeWords};
 use classes::Answer;
-use link_file::Reading;
+use link_format::Reading;
 
 // 0 for a row, else document 01's number.
 fn class_code(a: Answer) -> u32

@@ -5,27 +5,17 @@
 // number that applies; a refusal changes nothing.
 ghost use mathlib.Core.Path.{_≡_};
 ghost use lib.ListN.{length};
-ghost use Rattle.link_file.specs.Reading.{readAnswer, tableRead};
+ghost use Rattle.link_format.specs.Reading.{readAnswer, tableRead};
 
 mod records;
 mod word;
 
+use link_format::Reading;
+use link_format::Size;
 use network::link;
 use records::read_records;
 use word::is_signed;
 use word::word;
-
-// What the trailer says of the table: n and m.
-pub struct Size {
-    pub nodes: u32,
-    pub links: u32,
-}
-
-// What the reader answers: document 01's number, or n and m.
-pub enum Reading {
-    Refused(u32),
-    Table(Size),
-}
 
 // 17, 18 and 19 in this order; else n and m, and the records' words stand in the first 5 m words of `table`, whose other
 // words keep theirs. A usize has 64 bits, so the sum of the offset and the records' bytes is exact.

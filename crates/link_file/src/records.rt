@@ -3,7 +3,7 @@ ghost use mathlib.Core.Path.{_≡_};
 ghost use mathlib.Core.List.{_++_};
 ghost use Prim.Native.Nat.{_*_, _≤_};
 ghost use lib.ListN.{length, drop};
-ghost use Rattle.link_file.specs.Reading.{wordsFrom};
+ghost use Rattle.link_format.specs.Reading.{wordsFrom};
 use crate::word::word;
 
 // The words of `m` records, five each, into the first words of `table`. The reader has checked both lengths.

@@ -23,11 +23,11 @@ use Rattle.ebf.specs.Search.{tried, search}
 use Rattle.area.specs.Station.{tableIn, circuitOf, station}
 use Rattle.area.specs.Books.{books, net}
 use Rattle.station.specs.Load.{loadAnswer}
-use Rattle.booking.specs.Replies.{Reply}
-use Rattle.booking.specs.Calls.{quote, admission}
-use Rattle.booking.specs.Meaning.{netFor}
+use Rattle.rules.specs.Replies.{Reply}
+use Rattle.rules.specs.Calls.{quote, admission}
+use Rattle.rules.specs.Meaning.{netFor}
 use Rattle.worked_cases.specs.Cases.{netA, netB, AreasLoaded, m2, m3, m11, Asked, quoting, admitting, Case, cases, Holds, CaseHolds, Margins}
-use Rattle.booking.proofs.Meaning.{quote-means, admission-means}
+use Rattle.rules.proofs.Meaning.{quote-means, admission-means}
 
 -- ---- the cases
 -- what the calls' definitions reply, with enough work memory and path buffer

@@ -13,9 +13,9 @@ use Rattle.network.specs.declared.Request.{Request}
 use Rattle.network.specs.Reduce.{costBound}
 use Rattle.station.specs.declared.Loading.the-variants.{Loaded}
 use Rattle.station.specs.Load.{loadAnswer, loaded}
-use Rattle.booking.specs.Replies.{Reply, refuses, grants}
-use Rattle.booking.specs.Calls.{booked}
-use Rattle.booking.specs.Meaning.{netFor, Quoted, Admitted}
+use Rattle.rules.specs.Replies.{Reply, refuses, grants}
+use Rattle.rules.specs.Calls.{booked}
+use Rattle.rules.specs.Meaning.{netFor, Quoted, Admitted}
 
 -- ---- the areas
 -- a link's five words: from, to, delay, cost, capacity

@@ -2,7 +2,7 @@
 // free units. A line is the case's name and then problem, delay, cost and links; or 0 and the refusal's number. Work
 // memory starts as rubbish and is handed from one call to the next; the path buffer starts as 31 times 99, so that a
 // word that is not 99 was written.
-use booking::Answer;
+use rules::Answer;
 use booking::calls;
 use network::Request;
 use route::Grant;

@@ -9,8 +9,8 @@ use native.Mathlib.Omega.{arith}
 use borrow.Author.Needs.{needs}
 use borrow.Author.Tests.{not-true, not-false}
 use lib.ListN.{length}
-use Rattle.link_file.specs.Reading.{signed, offsetIn, linksIn}
-use Rattle.link_file.proofs.ReadCases.{signed-long, unsigned, many-links, not-filled, short-table, read-from}
+use Rattle.link_format.specs.Reading.{signed, offsetIn, linksIn}
+use Rattle.link_format.proofs.ReadCases.{signed-long, unsigned, many-links, not-filled, short-table, read-from}
 use Rattle.link_file.proofs.read.Statement.{statement}
 use Rattle.link_file.proofs.read.Tie as tie
 

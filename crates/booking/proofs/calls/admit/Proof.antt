@@ -9,10 +9,10 @@ use denote.Enum.Declared.{tagOf}
 use lib.ListN.{length}
 use Rattle.station.proofs.ReadCases.{formed-long}
 use Rattle.area_fit.proofs.CircuitCases.{part-length}
-use Rattle.booking.specs.Calls.{booksIn, sought}
-use Rattle.booking.proofs.Answer.{the-type}
-use Rattle.booking.proofs.CallCases.{all-passed, admission-refused, fails-11, fails-12, searches}
-use Rattle.booking.proofs.Granting.{stored-as, unstored, other-case, granted-short, admitted-as, refusal-admitted}
+use Rattle.rules.specs.Calls.{booksIn, sought}
+use Rattle.rules.proofs.Answer.{the-type}
+use Rattle.rules.proofs.CallCases.{all-passed, admission-refused, fails-11, fails-12, searches}
+use Rattle.rules.proofs.Granting.{stored-as, unstored, other-case, granted-short, admitted-as, refusal-admitted}
 use Rattle.booking.proofs.calls.admit.Statement.{statement}
 use Rattle.booking.proofs.calls.admit.Tie as tie
 

@@ -3,9 +3,9 @@
 use mathlib.Core.Path.{sym, _∙_}
 use borrow.Author.Needs.{needs}
 use lib.ListN.{length}
-use Rattle.booking.specs.Calls.{booksIn, sought}
-use Rattle.booking.proofs.CallCases.{all-passed, quote-refused, quote-passed}
-use Rattle.booking.proofs.Granting.{quoted-as, refusal-quoted}
+use Rattle.rules.specs.Calls.{booksIn, sought}
+use Rattle.rules.proofs.CallCases.{all-passed, quote-refused, quote-passed}
+use Rattle.rules.proofs.Granting.{quoted-as, refusal-quoted}
 use Rattle.booking.proofs.calls.quote.Statement.{statement}
 use Rattle.booking.proofs.calls.quote.Tie as tie
 

@@ -12,13 +12,13 @@ use Rattle.area.specs.Held.{foundAt}
 use Rattle.area.specs.Formed.{wellFormed}
 use Rattle.area.specs.Moves.{removed}
 use Rattle.station.proofs.ReadCases.{formed-long, formed-held}
-use Rattle.booking.specs.declared.Answer.{Answer}
-use Rattle.booking.specs.declared.Answer.the-variants.{Refused, Released}
-use Rattle.booking.specs.Replies.{Reply, refuses, releases, answerOf}
-use Rattle.booking.specs.Calls.{release, cleared}
-use Rattle.booking.specs.Meaning.{Cleared}
-use Rattle.booking.proofs.Meaning.{release-means}
-use Rattle.booking.proofs.CallCases.{release-unfit, release-unheld, release-held}
+use Rattle.rules.specs.declared.Answer.{Answer}
+use Rattle.rules.specs.declared.Answer.the-variants.{Refused, Released}
+use Rattle.rules.specs.Replies.{Reply, refuses, releases, answerOf}
+use Rattle.rules.specs.Calls.{release, cleared}
+use Rattle.rules.specs.Meaning.{Cleared}
+use Rattle.rules.proofs.Meaning.{release-means}
+use Rattle.rules.proofs.CallCases.{release-unfit, release-unheld, release-held}
 use Rattle.booking.proofs.calls.release.Statement.{statement}
 use Rattle.booking.proofs.calls.release.Tie as tie
 

@@ -7,10 +7,10 @@ use Prim.Native.Nat.{ℕ}
 use borrow.Author.Needs.{needs}
 use lib.ListN.{length}
 use Rattle.network.specs.declared.Request.{Request}
-use Rattle.booking.specs.declared.Answer.{Answer}
-use Rattle.booking.specs.Replies.{answerOf, pathAfter}
-use Rattle.booking.specs.Calls.{admission, booked}
-use Rattle.booking.specs.Meaning.{Admitted}
+use Rattle.rules.specs.declared.Answer.{Answer}
+use Rattle.rules.specs.Replies.{answerOf, pathAfter}
+use Rattle.rules.specs.Calls.{admission, booked}
+use Rattle.rules.specs.Meaning.{Admitted}
 use Rattle.line.specs.Codes.{answerCode, grantWords}
 use Rattle.line.proofs.booking_calls.line_admit.Statement.{statement}
 use Rattle.line.proofs.booking_calls.line_admit.Tie as tie

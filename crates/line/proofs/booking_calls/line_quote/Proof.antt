@@ -7,10 +7,10 @@ use Prim.Native.Nat.{ℕ}
 use borrow.Author.Needs.{needs}
 use lib.ListN.{length}
 use Rattle.network.specs.declared.Request.{Request}
-use Rattle.booking.specs.declared.Answer.{Answer}
-use Rattle.booking.specs.Replies.{answerOf, pathAfter}
-use Rattle.booking.specs.Calls.{quote}
-use Rattle.booking.specs.Meaning.{Quoted}
+use Rattle.rules.specs.declared.Answer.{Answer}
+use Rattle.rules.specs.Replies.{answerOf, pathAfter}
+use Rattle.rules.specs.Calls.{quote}
+use Rattle.rules.specs.Meaning.{Quoted}
 use Rattle.line.specs.Codes.{answerCode, grantWords}
 use Rattle.line.proofs.booking_calls.line_quote.Statement.{statement}
 use Rattle.line.proofs.booking_calls.line_quote.Tie as tie

@@ -3,7 +3,7 @@
 -- Assumes nothing.
 use mathlib.Core.Path.{sym, ap}
 use borrow.Author.Needs.{needs}
-use Rattle.booking.specs.declared.Answer.{Answer}
+use Rattle.rules.specs.declared.Answer.{Answer}
 use Rattle.line.specs.Codes.{grantWords}
 use Rattle.line.proofs.booking_calls.words.Statement.{statement}
 use Rattle.line.proofs.booking_calls.words.Tie as tie

@@ -3,7 +3,7 @@
 -- Assumes nothing.
 use mathlib.Core.Path.{ap, _∙_}
 use borrow.Author.Needs.{needs}
-use Rattle.link_file.specs.declared.Reading.{Reading}
+use Rattle.link_format.specs.declared.Reading.{Reading}
 use Rattle.line.specs.Codes.{fileCode, sizeWords}
 use Rattle.line.proofs.table_calls.line_read_link_file.Statement.{statement}
 use Rattle.line.proofs.table_calls.line_read_link_file.Tie as tie

@@ -3,7 +3,7 @@
 -- Assumes nothing.
 use mathlib.Core.Path.{sym, ap}
 use borrow.Author.Needs.{needs}
-use Rattle.link_file.specs.declared.Reading.{Reading}
+use Rattle.link_format.specs.declared.Reading.{Reading}
 use Rattle.line.specs.Codes.{sizeWords}
 use Rattle.line.proofs.table_calls.size_words.Statement.{statement}
 use Rattle.line.proofs.table_calls.size_words.Tie as tie

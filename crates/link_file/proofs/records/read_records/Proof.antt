@@ -6,7 +6,7 @@ use native.Mathlib.Omega.{arith}
 use borrow.Author.Needs.{needs}
 use lib.ListN.{length, length-set}
 use lib.Seq.{sets}
-use Rattle.link_file.specs.Reading.{wordsFrom}
+use Rattle.link_format.specs.Reading.{wordsFrom}
 use Rattle.network.proofs.Stored.{from-none, from-turn, from-end, from-stored}
 use Rattle.link_file.proofs.records.read_records.Statement.{statement}
 use Rattle.link_file.proofs.records.read_records.Tie as tie

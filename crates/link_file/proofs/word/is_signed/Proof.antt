@@ -9,7 +9,7 @@ use borrow.Author.Needs.{needs}
 use borrow.Author.Tests.{le-leb, lt-leb, eq-eqb, ne-eqb}
 use lib.Dec.{eqb}
 use lib.ListN.{length}
-use Rattle.link_file.specs.Reading.{fromEnd, signed}
+use Rattle.link_format.specs.Reading.{fromEnd, signed}
 use Rattle.link_file.proofs.word.is_signed.Statement.{statement}
 use Rattle.link_file.proofs.word.is_signed.Tie as tie
 

@@ -2,7 +2,7 @@
 -- bytes make less than 2 ^ 32.
 -- Assumes nothing.
 use borrow.Author.Needs.{needs}
-use Rattle.link_file.specs.Reading.{wordAt}
+use Rattle.link_format.specs.Reading.{wordAt}
 use Rattle.link_file.proofs.word.word.Statement.{statement}
 use Rattle.link_file.proofs.word.word.Tie as tie
 

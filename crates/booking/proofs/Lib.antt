@@ -1,8 +1,0 @@
-pub mod Passed
-pub mod Meaning
-pub mod Bookings
-pub mod Depends
-pub mod RequestCases
-pub mod Seeking
-pub mod CallCases
-pub mod Granting

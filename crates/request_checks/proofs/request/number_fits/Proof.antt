@@ -1,0 +1,79 @@
+-- `booking::request::number_fits` meets its contract: a number in its range fits where it is found at no place.
+-- Assumes nothing.
+use Prim.Native.Nat.{ℕ, _≤_}
+use mathlib.Core.Path.{_≡_, sym, ap, _∙_}
+use mathlib.Core.Bool.{true}
+use mathlib.Core.List.{List}
+use native.Mathlib.Omega.{arith}
+use lib.Dec.{eqb}
+use lib.ListN.{getD}
+use borrow.Author.Needs.{needs}
+use borrow.Author.Tests.{not-true, not-false, eq-eqb, ne-eqb}
+use Rattle.network.proofs.Loops.{first-most}
+use Rattle.network.proofs.Tests.{by-lt}
+use Rattle.area.specs.Held.{numberAt, foundAt}
+use Rattle.area.specs.Formed.{inRange}
+use Rattle.station.proofs.ReadCases.{formed-long, formed-held}
+use Rattle.rules.specs.Calls.{booksIn, numberFits}
+use Rattle.rules.proofs.CallCases.{number-out, number-held, number-new}
+use Rattle.request_checks.proofs.request.number_fits.Statement.{statement}
+use Rattle.request_checks.proofs.request.number_fits.Tie as tie
+
+-- a number is found at a place of a circuit, or at h
+found-most : (w : List ℕ) (h k : ℕ) → foundAt w h k ≤ h
+unfolding foundAt
+found-most w h k = first-most (λ j. eqb k (numberAt w j)) h
+
+-- it fits where it is found at h
+found-decides : (w : List ℕ) (k h j : ℕ) → inRange 1 65535 k ≡ true → h ≡ getD w 2 0 → j ≡ foundAt w h k → eqb j h ≡ numberFits (booksIn w) k
+found-decides w k h j range count found =
+    let held : foundAt w h k ≡ foundAt w (getD w 2 0) k = ap (λ (n : ℕ). foundAt w n k) count in
+    by-lt j h
+    (λ low. ne-eqb j h (λ e. omega arith) ∙ number-held w k range (omega arith))
+    (λ high. eq-eqb j h (omega (arith, found-most w h k)) ∙ number-new w k range (omega arith))
+
+in-range-requires : tie.Need-in-range-requires
+in-range-requires c κs = search needs
+
+returns : tie.Need-returns
+returns c =
+    let start = c .before .before .before in
+    number-out (start .args .area .now) (start .args .number) (sym (c .before .in-range .ensures) ∙ not-true _ (c .if1 .taken))
+
+shared-slice-read-wide : tie.Need-shared-slice-read-wide
+shared-slice-read-wide c =
+    let start = c .before .before .before .before in
+    omega (arith, formed-long (start .args .area .now) (start .pre))
+
+wide-requires : tie.Need-wide-requires
+wide-requires c κs = search needs
+
+find-requires : tie.Need-find-requires
+find-requires c κs =
+    let start = c .before .before .before .before .before in
+    let w = start .args .area .now in
+    (omega (arith, formed-held w (start .pre)), formed-long w (start .pre))
+
+returns-2 : tie.Need-returns-2
+returns-2 c =
+    let at = c .before .before .before in
+    let start = at .before .before .before in
+    found-decides
+    (start .args .area .now)
+    (start .args .number)
+    (c .before .wide .result)
+    (c .find .result)
+    (sym (at .before .in-range .ensures) ∙ not-false _ (at .if1 .left))
+    (c .before .wide .ensures)
+    (c .find .ensures)
+
+pub number-fits-spec : {M : Type 1} → statement M
+number-fits-spec =
+    tie.close
+    (tie.spec
+    in-range-requires
+    returns
+    shared-slice-read-wide
+    wide-requires
+    find-requires
+    returns-2)

@@ -1,0 +1,233 @@
+-- What a call does to the area. A granted admission has passed every check, so its path makes a circuit that fits, and
+-- the area stays well formed with the circuit more; a release takes out the one circuit with its number.
+-- Assumes nothing.
+use Prim.Native.Nat.{ℕ, suc, _≤_, _<_}
+use mathlib.Core.Path.{_≡_, refl, sym, ap, _∙_, subst}
+use mathlib.Core.Bool.{true}
+use mathlib.Core.List.{List}
+use mathlib.Core.Logic.{inl, inr}
+use native.Mathlib.Omega.{arith}
+use lib.Dec.{ltb, leb}
+use lib.ListN.{length, getD}
+use borrow.Author.Tests.{leb-true, ltb-true}
+use Rattle.network.specs.Lists.{memb}
+use Rattle.network.specs.Net.{Net, IsPath}
+use Rattle.network.specs.declared.Request.{Request}
+use Rattle.network.proofs.Tests.{fst-of, snd-of}
+use Rattle.network.proofs.Paths.{walk-links}
+use Rattle.network.proofs.Short.{path-short}
+use Rattle.area.specs.Station.{Circuit, Station, station}
+use Rattle.area.specs.Books.{holds, free, books, net}
+use Rattle.area.specs.Held.{foundAt}
+use Rattle.area.specs.Formed.{CircuitFits, Sound, WellFormed, wellFormed}
+use Rattle.area.specs.Moves.{withCircuit, withoutNumber, Untouched}
+use Rattle.area.proofs.Checks.{all-pass}
+use Rattle.area.proofs.Formed.{formed-says}
+use Rattle.area.proofs.Found.{holds-found}
+use Rattle.area.proofs.Added.{added-long, added-untouched, added-station}
+use Rattle.area.proofs.Removed.{removed-long, removed-untouched, removed-station}
+use Rattle.station.proofs.ReadCases.{links-few, held-few}
+use Rattle.area.proofs.Keeps.{sound-added, sound-removed, without-one, without-gone}
+use Rattle.rules.specs.Requests.{RequestFits, requestFits}
+use Rattle.rules.specs.Replies.{Reply, refuses, grants, releases}
+use Rattle.rules.specs.Calls.{booksIn, sought, numberFits, admitChecks, admission, booked, releaseChecks, release, cleared}
+use Rattle.rules.specs.Rules.{Answered, Grant, by-one, by-two, searchRules, NumberFits}
+use Rattle.rules.specs.Meaning.{netFor}
+use Rattle.rules.proofs.Passed.{granted-not-refused, released-not-refused, whole-path, some-link, count-is, held-number}
+use Rattle.rules.proofs.Meaning.{request-says, number-says, area-searchable, sought-means}
+
+-- a granted path is a usable path
+pub grant-path : {g : Net} {r : Request} {k d x : ℕ} {p : List ℕ} → Grant g r (grants k d x p) → IsPath g (r .source) (r .target) p
+grant-path (by-one p h) = h .2 .solves .path
+grant-path (by-two p h) = h .3 .solves .path
+
+-- a search that ends with a grant
+pub searched : (g : Net) (r : Request) (k d x : ℕ) (p : List ℕ) → Answered (Grant g r) (searchRules g r) (grants k d x p) → Grant g r (grants k d x p)
+unfolding Answered
+searched g r k d x p (inl (h, e)) = absurd (granted-not-refused k d x p 9 (sym e))
+searched g r k d x p (inr (n, inl (h, e))) = absurd (granted-not-refused k d x p 10 (sym e))
+searched g r k d x p (inr (n, inr (m, h))) = h
+
+-- a path of the network that a request sees has at most 31 links, since it has fewer than there are nodes
+pub seen-short : (w : List ℕ) (r : Request) → WellFormed w → RequestFits (booksIn w .table .nodes) r
+    → (p : List ℕ) → IsPath (netFor w r) (r .source) (r .target) p
+    → length p ≤ 31
+seen-short w r formed fits p path =
+    let ok = area-searchable w r formed fits in
+    omega (arith, path-short (netFor w r) (ok .ends) (r .source) (r .target) (ok .source) p path, ok .few)
+
+-- ---- a granted admission
+-- the circuit that a grant makes
+abbrev pub circuitFor : ℕ → Request → List ℕ → Circuit
+circuitFor c r p = record { number = c; units = r .units; path = p }
+
+-- what the checks and the search said before the grant
+pub record Accepted (w : List ℕ) (c : ℕ) (r : Request) (k d x : ℕ) (p : List ℕ) : Type 0 where
+  pub formed : WellFormed w
+  pub request : RequestFits (booksIn w .table .nodes) r
+  pub number : NumberFits (booksIn w) c
+  pub room : booksIn w .count < 64
+  pub grant : Grant (netFor w r) r (grants k d x p)
+
+module _ (w : List ℕ) (work room c : ℕ) (r : Request) (k d x : ℕ) (p : List ℕ) (e : admission w work room c r ≡ grants k d x p) where
+  -- a grant comes past every check and from the search
+  pub admission-granted : Accepted w c r k d x p
+  unfolding admission
+  admission-granted =
+      let h = all-pass refuses (admitChecks w work room c r) (sought (booksIn w) r) (grants k d x p) (granted-not-refused k d x p) e in
+      let e6 = snd-of (wellFormed w) _ (h .0) in
+      let e7 = snd-of (leb 16384 work) _ e6 in
+      let e8 = snd-of (leb 31 room) _ e7 in
+      let e11 = snd-of (requestFits (booksIn w .table .nodes) r) _ e8 in
+      let e12 = snd-of (numberFits (booksIn w) c) _ e11 in
+      let formed : WellFormed w = formed-says w (fst-of (wellFormed w) _ (h .0)) in
+      let fits : RequestFits (booksIn w .table .nodes) r = request-says (booksIn w .table .nodes) r (fst-of (requestFits (booksIn w .table .nodes) r) _ e8) in
+      record {
+        formed = formed;
+        request = fits;
+        number = number-says (booksIn w) c (fst-of (numberFits (booksIn w) c) _ e11);
+        room = ltb-true (booksIn w .count) 64 (fst-of (ltb (booksIn w .count) 64) _ e12);
+        grant = searched (netFor w r) r k d x p (subst (Answered (Grant (netFor w r) r) (searchRules (netFor w r) r)) (h .1) (sought-means w r formed fits));
+      }
+
+  path : IsPath (netFor w r) (r .source) (r .target) p
+  path = grant-path (admission-granted .grant)
+
+  short : length p ≤ 31
+  short = seen-short w r (admission-granted .formed) (admission-granted .request) p path
+
+  -- the circuit fits the table
+  pub admitted-fits : CircuitFits (station w .table) (circuitFor c r p)
+  unfolding books
+  admitted-fits =
+      record {
+        number-least = admission-granted .number .least;
+        number-most = admission-granted .number .most;
+        units-least = admission-granted .request .units-least;
+        units-most = admission-granted .request .units-most;
+        links-least = some-link p path;
+        links-most = short;
+        path = (r .source, r .target, whole-path (booksIn w) (r .units) (r .source) (r .target) p path);
+      }
+
+  -- the links of the path have the units free
+  pub admitted-free : (i : ℕ) → memb i p ≡ true → r .units ≤ free (station w) i
+  unfolding net books
+  admitted-free i h =
+      leb-true (r .units) (free (station w) i) (walk-links (netFor w r) (r .source) (r .target) p (path .walk) i h .1)
+
+  -- the station after has the circuit more, and no other change
+  pub admitted-station : station (booked w c (r .units) (grants k d x p)) ≡ withCircuit (station w) (circuitFor c r p)
+  unfolding booked
+  admitted-station =
+      added-station w (circuitFor c r p) (admission-granted .formed .long) (links-few w (admission-granted .formed))
+      (omega (arith, count-is w, admission-granted .room)) short
+
+  -- one more is held; since 12 is refused only where 64 are, 64 can be held
+  pub admitted-count : booksIn (booked w c (r .units) (grants k d x p)) .count ≡ suc (booksIn w .count)
+  unfolding books
+  admitted-count = ap (λ (s : Station). length (s .held)) admitted-station
+
+  granted-formed : WellFormed (booked w c (r .units) (grants k d x p))
+  unfolding booked books
+  granted-formed =
+      record {
+        long = omega (arith, added-long w (circuitFor c r p), admission-granted .formed .long);
+        sound =
+            subst Sound (sym admitted-station)
+            (sound-added (station w) (circuitFor c r p) (admission-granted .formed .sound) (admission-granted .room) admitted-fits
+            (admission-granted .number .new) admitted-free);
+      }
+
+  granted-untouched : Untouched w (booked w c (r .units) (grants k d x p))
+  unfolding booked
+  granted-untouched = added-untouched w (circuitFor c r p) (omega (arith, count-is w, admission-granted .room)) short
+
+-- ---- any admission
+-- a refusal leaves the words as they are
+same-untouched : (w : List ℕ) → Untouched w w
+same-untouched w = record { nodes = refl; links = refl; table = λ i from low. refl; past = λ i high. refl; long = refl }
+
+module _ (w : List ℕ) (work room c : ℕ) (r : Request) where
+  -- a well-formed area stays well formed
+  pub admitted-formed : WellFormed w → WellFormed (booked w c (r .units) (admission w work room c r))
+  unfolding booked
+  admitted-formed formed = go (admission w work room c r) refl
+    where
+      go : (a : Reply) → admission w work room c r ≡ a → WellFormed (booked w c (r .units) a)
+      go (refuses n) e = formed
+      go (grants k d x p) e = granted-formed w work room c r k d x p e
+      go releases e = formed
+
+  -- n, m, the links and the words past the circuits stay
+  pub admitted-untouched : Untouched w (booked w c (r .units) (admission w work room c r))
+  unfolding booked
+  admitted-untouched = go (admission w work room c r) refl
+    where
+      go : (a : Reply) → admission w work room c r ≡ a → Untouched w (booked w c (r .units) a)
+      go (refuses n) e = same-untouched w
+      go (grants k d x p) e = granted-untouched w work room c r k d x p e
+      go releases e = same-untouched w
+
+-- ---- a granted release
+module _ (w : List ℕ) (c : ℕ) (e : release w c ≡ releases) where
+  -- a release comes past both checks
+  passed : WellFormed w × (holds (station w .held) c ≡ true)
+  unfolding release books
+  passed =
+      let h = all-pass refuses (releaseChecks w c) releases releases released-not-refused e .0 in
+      (formed-says w (fst-of (wellFormed w) _ h), fst-of (holds (station w .held) c) _ (snd-of (wellFormed w) _ h))
+
+  -- the station after is without the number, and has no other change
+  pub released-station : station (cleared w c releases) ≡ withoutNumber (station w) c
+  unfolding cleared
+  released-station =
+      removed-station w c (passed .0 .long) (links-few w (passed .0)) (held-few w (passed .0)) (passed .0 .sound .differ) (passed .1)
+
+  unheld-formed : WellFormed (cleared w c releases)
+  unfolding cleared
+  unheld-formed =
+      record {
+        long = omega (arith, removed-long w (foundAt w (getD w 2 0) c), passed .0 .long);
+        sound = subst Sound (sym released-station) (sound-removed (station w) c (passed .0 .sound));
+      }
+
+  unheld-untouched : Untouched w (cleared w c releases)
+  unfolding cleared station
+  unheld-untouched =
+      removed-untouched w (foundAt w (getD w 2 0) c) (held-few w (passed .0))
+      (ltb-true (foundAt w (getD w 2 0) c) (getD w 2 0) (sym (holds-found w (getD w 2 0) c) ∙ passed .1))
+
+  -- the number may be used again, and there is room for a circuit
+  pub released-again : NumberFits (booksIn (cleared w c releases)) c × (booksIn (cleared w c releases) .count < 64)
+  unfolding books
+  released-again = subst (λ (s : Station). NumberFits (books s) c × (books s .count < 64)) (sym released-station) again
+    where
+      again : NumberFits (books (withoutNumber (station w) c)) c × (books (withoutNumber (station w) c) .count < 64)
+      again =
+          let range = held-number (station w .table) (station w .held) c (passed .0 .sound .each) (passed .1) in (
+            record { least = range .0; most = range .1; new = without-gone c (station w .held) },
+            omega (arith, without-one c (station w .held) (passed .0 .sound .differ) (passed .1), passed .0 .sound .few),
+          )
+
+-- ---- any release
+module _ (w : List ℕ) (c : ℕ) where
+  -- a well-formed area stays well formed
+  pub released-formed : WellFormed w → WellFormed (cleared w c (release w c))
+  unfolding cleared
+  released-formed formed = go (release w c) refl
+    where
+      go : (a : Reply) → release w c ≡ a → WellFormed (cleared w c a)
+      go (refuses n) e = formed
+      go (grants k d x p) e = formed
+      go releases e = unheld-formed w c e
+
+  -- n, m, the links and the words past the circuits stay
+  pub released-untouched : Untouched w (cleared w c (release w c))
+  unfolding cleared
+  released-untouched = go (release w c) refl
+    where
+      go : (a : Reply) → release w c ≡ a → Untouched w (cleared w c a)
+      go (refuses n) e = same-untouched w
+      go (grants k d x p) e = same-untouched w
+      go releases e = unheld-untouched w c e

@@ -1,0 +1,6 @@
+pub mod Passed
+pub mod Meaning
+pub mod Bookings
+pub mod Depends
+pub mod CallCases
+pub mod Granting
