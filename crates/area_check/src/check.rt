@@ -11,7 +11,7 @@ use crate::units::take_circuits;
 use crate::units::unfit;
 use area_words::layout;
 use area_words::range::in_range;
-use network::link;
+use links::link;
 
 // Whether the area is well formed, and every link's free units.
 pub fn check(area: &[u32]) -> Checked

@@ -10,8 +10,8 @@ ghost use Rattle.area_check.specs.Units.{enough, taken, left};
 ghost use Rattle.area_fit.specs.Ready.{Links, Held};
 use crate::Checked;
 use area_words::layout;
-use network::link;
-use network::link::column;
+use links::link;
+use links::link::column;
 
 // Takes `units` of each link of `path`; false where a link has fewer.
 fn take_path(free: &mut [u32; 256], path: &[u32], units: u32) -> bool

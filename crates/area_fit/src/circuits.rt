@@ -8,8 +8,8 @@ ghost use Rattle.area_fit.specs.Ready.{Links, Room, placeFits};
 use circuit_store::held::find;
 use area_words::layout;
 use area_words::range::in_range;
-use network::link;
-use network::node_set;
+use links::link;
+use links::node_set;
 
 // Whether link `i` goes on from node `v`, to a node that is not in `seen`.
 fn goes_on(m: usize, links: &[u32], v: u32, seen: u32, i: usize) -> bool

@@ -3,7 +3,7 @@ ghost use mathlib.Core.Path.{_≡_};
 ghost use Prim.Native.Nat.{_*_, _<_, _≤_};
 ghost use lib.ListN.{length};
 ghost use Rattle.area.specs.Formed.{linkFits, linksFit};
-use network::link;
+use links::link;
 
 // Whether link `i` of `m` has both ends among `n` nodes and apart, and its weights and its capacity in range.
 fn link_fits(n: u32, m: usize, links: &[u32], i: usize) -> bool

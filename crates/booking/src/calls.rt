@@ -12,7 +12,7 @@ use circuit_store::held::find;
 use area_words::layout;
 use circuit_store::store;
 use network::Request;
-use network::link;
+use links::link;
 use area_check::check::check;
 
 // Most circuits held.

@@ -4,7 +4,7 @@ ghost use Prim.Native.Nat.{_+_, _-_, _≤_, _<_};
 ghost use lib.ListN.{length, getD};
 ghost use Rattle.area.specs.Moves.{added, closed, removed};
 use area_words::layout;
-use network::link;
+use links::link;
 
 // Puts a circuit behind the last one. An admission has checked the area and that fewer than 64 are held, and a granted
 // path has at most 31 links.

@@ -5,12 +5,12 @@ ghost use mathlib.Core.List.{[], _∷_};
 ghost use Prim.Native.Nat.{_+_, _≤_};
 ghost use lib.ListN.{length};
 ghost use lib.Seq.{sets};
-ghost use Rattle.class_lines.specs.Lines.{line, requestOf, quoteLine, classLine, lines};
+ghost use Rattle.class_format.specs.Lines.{line, requestOf, quoteLine, classLine, lines};
 use rules::Answer;
 use booking::calls::quote;
 use classes::Service;
 use network::Request;
-use network::link;
+use links::link;
 use route::Grant;
 
 // Class, 0, number.

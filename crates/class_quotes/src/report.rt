@@ -4,10 +4,10 @@ ghost use Prim.Native.Nat.{_≤_};
 ghost use lib.ListN.{length};
 ghost use lib.Seq.{sets};
 ghost use Rattle.io.specs.Counts.{Counts};
-ghost use Rattle.class_quotes.specs.Output.{refusal, loadOutput, fileOutput, output};
+ghost use Rattle.class_format.specs.Output.{refusal, loadOutput, fileOutput, output};
 use class_lines::put_lines;
 use link_format::Reading;
-use network::link;
+use links::link;
 use station::Loading;
 use station::load::load;
 

@@ -2,7 +2,7 @@
 ghost use Prim.Native.Nat.{_<_, _≤_};
 use crate::show;
 use area_words::layout;
-use network::link;
+use links::link;
 use station::reads;
 
 // Path word `k` of the circuit at word `at`, where its link count says that it has one. The last place of an area begins

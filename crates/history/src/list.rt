@@ -14,7 +14,7 @@ use crate::show;
 use rules::Answer;
 use booking::calls;
 use network::Request;
-use network::link;
+use links::link;
 
 // The list of calls. A row is kind, circuit number, source, target, units, delay bound, cost bound and coefficient; a
 // number that plays no part is 0.

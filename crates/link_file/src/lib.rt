@@ -7,15 +7,12 @@ ghost use mathlib.Core.Path.{_≡_};
 ghost use lib.ListN.{length};
 ghost use Rattle.link_format.specs.Reading.{readAnswer, tableRead};
 
-mod records;
-mod word;
-
 use link_format::Reading;
 use link_format::Size;
-use network::link;
-use records::read_records;
-use word::is_signed;
-use word::word;
+use link_records::records::read_records;
+use link_records::word::is_signed;
+use link_records::word::word;
+use links::link;
 
 // 17, 18 and 19 in this order; else n and m, and the records' words stand in the first 5 m words of `table`, whose other
 // words keep theirs. A usize has 64 bits, so the sum of the offset and the records' bytes is exact.

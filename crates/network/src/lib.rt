@@ -1,9 +1,5 @@
-// Networks of links: reading a link's words, the set of nodes on a path, and the scaled weight of a link.
-// What a path, a reduced problem and a solution are stands in specs/, with its laws in proofs/.
-pub mod link;
-pub mod node_set;
-pub mod scale;
-
+// Networks of links: what a path, a scaled weight, a reduced problem and a solution are (specs/), with their laws (proofs/).
+// There is no code here but the request's type; every other crate stands on it.
 // A request of document 01: from source to target for some units, within both bounds; the search's x is the
 // coefficient times the distance.
 pub struct Request {

@@ -8,7 +8,7 @@ use circuit_store::held::find;
 use area_words::layout;
 use area_words::range::in_range;
 use network::Request;
-use network::link;
+use links::link;
 
 // Whether `r` is a request among `n` nodes.
 pub fn request_fits(n: u32, r: Request) -> bool

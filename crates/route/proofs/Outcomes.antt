@@ -19,15 +19,15 @@ use Rattle.ebf.specs.Search.{outcomeOf}
 use Rattle.ebf.proofs.Good.{Room}
 use Rattle.ebf.proofs.Sound.{initialised-good}
 use Rattle.ebf.proofs.Memory.{any-memory-solves}
-use Rattle.trace.specs.declared.Leg.{Leg}
+use Rattle.path_words.specs.declared.Leg.{Leg}
 use Rattle.table.specs.declared.Reduced.{Reduced}
 use Rattle.route.specs.declared.Answer.the-variants.{NoSolution, Granted}
 use Rattle.network.specs.Words.{Links}
 use Rattle.table.specs.Solver.{Sound, netIn, problemOf, Bounded}
-use Rattle.trace.specs.Forward.{forwarded}
+use Rattle.path_words.specs.Forward.{forwarded}
 use Rattle.route.specs.Answers.{answerOf, pathAfter}
 use Rattle.table.proofs.Rows.{cells-below}
-use Rattle.trace.proofs.Forward.{follow-short, forward-links, forward-delay, forward-cost, forward-path}
+use Rattle.path_words.proofs.Forward.{follow-short, forward-links, forward-delay, forward-cost, forward-path}
 
 -- the ends that the table's words give are nodes
 pub net-ends : (n m : ℕ) (links usable : List ℕ) → Links n m links → Ends (netOf n m links usable)

@@ -25,7 +25,7 @@ use Rattle.table.specs.declared.Reduced.{Reduced}
 use Rattle.route.specs.declared.Answer.{Answer}
 use Rattle.route.specs.declared.Answer.the-variants.{NoSolution}
 use Rattle.table.specs.Solver.{problemOf}
-use Rattle.trace.specs.Forward.{Columns}
+use Rattle.path_words.specs.Forward.{Columns}
 use Rattle.route.specs.Answers.{answerOf, pathAfter}
 
 -- ---- columns

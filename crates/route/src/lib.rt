@@ -10,13 +10,12 @@ ghost use Rattle.route.specs.Answers.{answerOf, pathAfter};
 ghost use Rattle.route.specs.Ready.{Ready};
 
 mod attempt;
-mod distance;
 mod problems;
 
-use crate::distance::distance;
+use distance::distance::distance;
 use crate::problems::both_problems;
 use network::Request;
-use network::link;
+use links::link;
 
 // A granted path: the problem that granted it, 1 or 2, its delay, its cost and its number of links.
 pub struct Grant {

@@ -10,8 +10,8 @@ use table::Reduced;
 use crate::attempt::attempt;
 use table::weights::scaled_column;
 use network::Request;
-use network::link;
-use network::link::column;
+use links::link;
+use links::link::column;
 
 // The answer for request `r` at `x`.
 pub fn both_problems(

@@ -6,7 +6,7 @@ ghost use Rattle.seek.specs.Ready.{Seekable};
 use rules::Answer;
 use area_words::layout;
 use network::Request;
-use network::link;
+use links::link;
 use station::usable::usable;
 
 // The search's answer with document 01's numbers.

@@ -9,7 +9,7 @@ ghost use Rattle.area_fit.specs.Ready.{Room};
 use crate::Reading;
 use area_check::check::check;
 use area_words::layout;
-use network::link;
+use links::link;
 
 // The numbers of the first `h` circuits.
 fn write_numbers(area: &[u32], h: usize, numbers: &mut [u32])

@@ -3,7 +3,7 @@ ghost use mathlib.Core.Path.{_≡_};
 ghost use Prim.Native.Nat.{ℕ, _≤_, _<_};
 ghost use lib.ListN.{getD};
 ghost use Rattle.network.specs.Scale.{scaled};
-use network::scale::scale;
+use links::scale::scale;
 
 // The scaled weight of every link, formula 1.
 pub fn scaled_column(weights: &[u32; 256], m: usize, x: usize, bound: u32) -> [u32; 256]

@@ -4,8 +4,8 @@ ghost use mathlib.Core.Path.{_≡_};
 ghost use Prim.Native.Nat.{_+_, _*_, _≤_};
 ghost use lib.ListN.{length};
 ghost use lib.Seq.{sets};
-ghost use Rattle.text.specs.Decimal.{decimal};
-ghost use Rattle.text.specs.Fields.{field, fields};
+ghost use Rattle.text_format.specs.Decimal.{decimal};
+ghost use Rattle.text_format.specs.Fields.{field, fields};
 
 // These bytes.
 pub fn put(text: &mut [u8], at: usize, bytes: &[u8]) -> usize

@@ -13,8 +13,8 @@ use table::Reduced;
 use table::table::cell;
 use table::table::cells;
 use ebf::Trail;
-use network::link;
-use network::node_set;
+use links::link;
+use links::node_set;
 
 // The link kept where the trail stands.
 fn kept_link(work: &[u32], p: Reduced, w: Trail) -> usize

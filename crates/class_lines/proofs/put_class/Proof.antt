@@ -2,8 +2,8 @@
 -- Assumes nothing.
 use mathlib.Core.Path.{sym, _∙_}
 use borrow.Author.Needs.{needs}
-use Rattle.class_lines.proofs.LineBytes.{put-as}
-use Rattle.class_lines.proofs.Quoted.{class-refused, class-row}
+use Rattle.class_format.proofs.LineBytes.{put-as}
+use Rattle.class_format.proofs.Quoted.{class-refused, class-row}
 use Rattle.class_lines.proofs.put_class.Statement.{statement}
 use Rattle.class_lines.proofs.put_class.Tie as tie
 

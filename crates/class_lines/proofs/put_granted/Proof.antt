@@ -2,7 +2,7 @@
 -- Assumes nothing.
 use native.Mathlib.Omega.{arith}
 use borrow.Author.Needs.{needs}
-use Rattle.class_lines.proofs.LineBytes.{granted-line}
+use Rattle.class_format.proofs.LineBytes.{granted-line}
 use Rattle.class_lines.proofs.put_granted.Statement.{statement}
 use Rattle.class_lines.proofs.put_granted.Tie as tie
 

@@ -6,9 +6,9 @@ use native.Mathlib.Omega.{arith}
 use borrow.Author.Needs.{needs}
 use lib.ListN.{length}
 use lib.Seq.{sets}
-use Rattle.text.proofs.Puts.{Left}
-use Rattle.class_lines.specs.Lines.{linesFrom, lines}
-use Rattle.class_lines.proofs.LineBytes.{lines-none, lines-turn, lines-end}
+use Rattle.text_format.proofs.Puts.{Left}
+use Rattle.class_format.specs.Lines.{linesFrom, lines}
+use Rattle.class_format.proofs.LineBytes.{lines-none, lines-turn, lines-end}
 use Rattle.class_lines.proofs.put_lines.Statement.{statement}
 use Rattle.class_lines.proofs.put_lines.Tie as tie
 

@@ -5,8 +5,8 @@ use native.Mathlib.Omega.{arith}
 use borrow.Author.Needs.{needs}
 use lib.Seq.{length-take-le}
 use lib.ListN.{length}
-use Rattle.class_lines.proofs.LineBytes.{put-as}
-use Rattle.class_lines.proofs.Quoted.{line-of-quote, reply-refused, reply-granted, never-released}
+use Rattle.class_format.proofs.LineBytes.{put-as}
+use Rattle.class_format.proofs.Quoted.{line-of-quote, reply-refused, reply-granted, never-released}
 use Rattle.class_lines.proofs.put_quote.Statement.{statement}
 use Rattle.class_lines.proofs.put_quote.Tie as tie
 

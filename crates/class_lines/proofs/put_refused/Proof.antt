@@ -2,7 +2,7 @@
 -- Assumes nothing.
 use native.Mathlib.Omega.{arith}
 use borrow.Author.Needs.{needs}
-use Rattle.class_lines.proofs.LineBytes.{refused-line}
+use Rattle.class_format.proofs.LineBytes.{refused-line}
 use Rattle.class_lines.proofs.put_refused.Statement.{statement}
 use Rattle.class_lines.proofs.put_refused.Tie as tie
 

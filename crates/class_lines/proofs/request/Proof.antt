@@ -2,7 +2,7 @@
 -- Assumes nothing.
 use mathlib.Core.Path.{refl}
 use borrow.Author.Needs.{needs}
-use Rattle.class_lines.specs.Lines.{requestOf}
+use Rattle.class_format.specs.Lines.{requestOf}
 use Rattle.class_lines.proofs.request.Statement.{statement}
 use Rattle.class_lines.proofs.request.Tie as tie
 

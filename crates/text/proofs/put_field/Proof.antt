@@ -1,7 +1,7 @@
 -- `text::put_field` meets its contract: the number stands behind the space.
 -- Assumes nothing.
 use borrow.Author.Needs.{needs}
-use Rattle.text.proofs.Puts.{field-put}
+use Rattle.text_format.proofs.Puts.{field-put}
 use Rattle.text.proofs.put_field.Statement.{statement}
 use Rattle.text.proofs.put_field.Tie as tie
 

@@ -6,8 +6,8 @@ use native.Mathlib.Omega.{arith}
 use borrow.Author.Needs.{needs}
 use lib.ListN.{length, drop}
 use lib.Seq.{sets}
-use Rattle.text.specs.Fields.{fields}
-use Rattle.text.proofs.Puts.{Left, fields-turn, fields-end}
+use Rattle.text_format.specs.Fields.{fields}
+use Rattle.text_format.proofs.Puts.{Left, fields-turn, fields-end}
 use Rattle.text.proofs.put_fields.Statement.{statement}
 use Rattle.text.proofs.put_fields.Tie as tie
 

@@ -4,9 +4,9 @@ use mathlib.Core.Path.{ap, _∙_}
 use native.Mathlib.Omega.{arith}
 use borrow.Author.Needs.{needs}
 use lib.ListN.{length}
-use Rattle.text.specs.Decimal.{decimal}
-use Rattle.text.proofs.Digits.{decimal-short, digits-decimal}
-use Rattle.text.proofs.Puts.{number-put}
+use Rattle.text_format.specs.Decimal.{decimal}
+use Rattle.text_format.proofs.Digits.{decimal-short, digits-decimal}
+use Rattle.text_format.proofs.Puts.{number-put}
 use Rattle.text.proofs.put_number.Statement.{statement}
 use Rattle.text.proofs.put_number.Tie as tie
 

@@ -5,8 +5,8 @@ use mathlib.Core.Path.{sym, ap, _∙_}
 use native.Mathlib.Omega.{arith}
 use borrow.Author.Needs.{needs}
 use lib.Seq.{length-take-le}
-use Rattle.class_quotes.specs.Output.{loadOutput}
-use Rattle.class_quotes.proofs.Reported.{all-as, file-refused, file-read, table-front, table-fits}
+use Rattle.class_format.specs.Output.{loadOutput}
+use Rattle.class_format.proofs.Reported.{all-as, file-refused, file-read, table-front, table-fits}
 use Rattle.class_quotes.proofs.report.put_file.Statement.{statement}
 use Rattle.class_quotes.proofs.report.put_file.Tie as tie
 

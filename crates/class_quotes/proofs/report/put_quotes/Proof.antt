@@ -4,9 +4,9 @@ use mathlib.Core.Path.{sym, ap, _∙_}
 use mathlib.Core.List.{List}
 use Prim.Native.Nat.{ℕ}
 use borrow.Author.Needs.{needs}
-use Rattle.class_lines.specs.Lines.{lines}
-use Rattle.class_quotes.specs.Output.{blank}
-use Rattle.class_quotes.proofs.Reported.{all-as, load-refused, load-accepted, some-nodes}
+use Rattle.class_format.specs.Lines.{lines}
+use Rattle.class_format.specs.Output.{blank}
+use Rattle.class_format.proofs.Reported.{all-as, load-refused, load-accepted, some-nodes}
 use Rattle.class_quotes.proofs.report.put_quotes.Statement.{statement}
 use Rattle.class_quotes.proofs.report.put_quotes.Tie as tie
 

@@ -2,7 +2,7 @@
 -- Assumes nothing.
 use native.Mathlib.Omega.{arith}
 use borrow.Author.Needs.{needs}
-use Rattle.class_quotes.proofs.Reported.{refusal-put}
+use Rattle.class_format.proofs.Reported.{refusal-put}
 use Rattle.class_quotes.proofs.report.put_refusal.Statement.{statement}
 use Rattle.class_quotes.proofs.report.put_refusal.Tie as tie
 

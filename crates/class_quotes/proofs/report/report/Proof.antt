@@ -2,7 +2,7 @@
 -- Assumes nothing.
 use native.Mathlib.Omega.{arith}
 use borrow.Author.Needs.{needs}
-use Rattle.class_quotes.proofs.Reported.{long-file, taken, counted}
+use Rattle.class_format.proofs.Reported.{long-file, taken, counted}
 use Rattle.class_quotes.proofs.report.report.Statement.{statement}
 use Rattle.class_quotes.proofs.report.report.Tie as tie
 

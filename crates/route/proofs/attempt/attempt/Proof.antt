@@ -5,7 +5,8 @@ use mathlib.Core.List.{List, []}
 use Prim.Native.Nat.{ℕ}
 use Rattle.ebf.specs.declared.Trail.{Trail}
 use Rattle.route.proofs.Outcomes.{table-is, table-bounded, answers-none, leaves-path, answers-path, writes-path}
-use Rattle.trace.proofs.Unflagged.{traced-unflagged, forwarded-unflagged}
+use Rattle.trace.proofs.Unflagged.{traced-unflagged}
+use Rattle.path_words.proofs.Unflagged.{forwarded-unflagged}
 use borrow.Author.Needs.{needs}
 use Rattle.route.proofs.attempt.attempt.Statement.{statement}
 use Rattle.route.proofs.attempt.attempt.Tie as tie

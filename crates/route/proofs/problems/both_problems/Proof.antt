@@ -5,7 +5,7 @@ use mathlib.Core.Path.{refl, sym, _∙_}
 use native.Mathlib.Omega.{arith}
 use denote.Enum.Declared.{tagOf}
 use Rattle.route.proofs.Answer.{the-type}
-use Rattle.trace.specs.Forward.{Columns}
+use Rattle.path_words.specs.Forward.{Columns}
 use Rattle.route.proofs.Reductions.{column-past, column-light, weight-light, one-is, two-is, other-case, answers-first, writes-first, answers-second, writes-second}
 use borrow.Author.Needs.{needs}
 use Rattle.route.proofs.problems.both_problems.Statement.{statement}

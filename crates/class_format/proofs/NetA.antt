@@ -1,0 +1,30 @@
+-- Document 01's example: the definitions give its six lines for net A's file. A file without a byte and one with a single
+-- node are refused.
+-- Assumes nothing.
+use mathlib.Core.Path.{_≡_, refl}
+use mathlib.Core.List.{[]}
+use Rattle.network.specs.Loops.{iter, first}
+use Rattle.network.specs.Scale.{scaled}
+use Rattle.network.specs.Cut.{noted, follow}
+use Rattle.network.specs.Reduce.{problemOne, problemTwo}
+use Rattle.ebf.specs.Table.{cell, cells, filled, initialised, improved, relaxed, offered, column, round, rounds, ebf}
+use Rattle.ebf.specs.Trace.{trailBack, stepBack, traced}
+use Rattle.ebf.specs.Solve.{pathIn, answerIn, solveIn, solve}
+use Rattle.ebf.specs.Distance.{spread, layer, distance}
+use Rattle.ebf.specs.Search.{tried, search}
+use Rattle.area.specs.Station.{tableIn, circuitOf}
+use Rattle.link_format.specs.Reading.{wordAt, signed, fills}
+use Rattle.class_format.specs.Output.{fileOutput, output}
+use Rattle.class_format.specs.NetA.{fileFor, netAFile, netALines, fileSeventeen, loadTwo}
+
+pub net-a-prints : output netAFile ≡ netALines
+unfolding output fileOutput netAFile wordAt signed fills tableIn circuitOf search tried solve solveIn answerIn pathIn ebf rounds round column offered relaxed improved initialised filled cell cells traced stepBack trailBack noted follow distance layer spread problemOne problemTwo scaled iter first
+net-a-prints = refl
+
+pub no-byte-prints : output [] ≡ fileSeventeen
+unfolding output fileOutput signed
+no-byte-prints = refl
+
+pub one-node-prints : output (fileFor 1) ≡ loadTwo
+unfolding output fileOutput fileFor wordAt signed fills
+one-node-prints = refl

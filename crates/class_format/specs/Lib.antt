@@ -1,0 +1,4 @@
+pub mod Lines
+pub mod DocumentLines
+pub mod Output
+pub mod NetA

@@ -1,0 +1,56 @@
+-- The lines of the class program, as bytes: one space between fields, and a newline (byte 10) ends each line.
+-- Assumes nothing.
+use Prim.Native.Nat.{ℕ, zero, suc, _-_}
+use mathlib.Core.List.{List, [], _∷_, _++_}
+use Rattle.network.specs.declared.Request.{Request}
+use Rattle.classes.specs.declared.Service.{Service}
+use Rattle.classes.specs.declared.Answer.{Answer}
+use Rattle.classes.specs.declared.Answer.the-variants.{Refused, Row}
+use Rattle.classes.specs.Classes.{classAnswer}
+use Rattle.rules.specs.Replies.{Reply, refuses, grants, releases}
+use Rattle.rules.specs.Calls.{quote}
+use Rattle.text_format.specs.Decimal.{decimal}
+use Rattle.text_format.specs.Fields.{fields}
+
+-- the class, and these numbers
+unfoldable pub line : ℕ → List ℕ → List ℕ
+unfolding decimal fields
+line k ns = decimal k ++ fields ns ++ 10 ∷ []
+
+-- class, problem, delay, cost, links; refused: class, 0, number
+unfoldable pub replyLine : ℕ → Reply → List ℕ
+unfolding line
+replyLine k (refuses number) = line k (0 ∷ number ∷ [])
+replyLine k (grants problem delay cost path) = line k (problem ∷ delay ∷ cost ∷ path)
+-- no quote has this reply
+replyLine k releases = []
+
+-- what a class asks for, from node 0 to n - 1
+unfoldable pub requestOf : ℕ → Service → Request
+requestOf n s =
+    record { source = 0; target = n - 1; units = s .units; «delay_bound» = s .«delay_bound»; «cost_bound» = s .«cost_bound»; coefficient = s .coefficient }
+
+-- the line of class k with the row s, quoted on an area of n nodes
+unfoldable pub quoteLine : List ℕ → ℕ → ℕ → Service → List ℕ
+unfolding replyLine quote requestOf
+quoteLine area n k s = replyLine k (quote area 16384 31 (requestOf n s))
+
+unfoldable pub answeredLine : List ℕ → ℕ → ℕ → Answer → List ℕ
+unfolding replyLine quoteLine
+answeredLine area n k (Refused number) = replyLine k (refuses number)
+answeredLine area n k (Row s) = quoteLine area n k s
+
+unfoldable pub classLine : List ℕ → ℕ → ℕ → List ℕ
+unfolding answeredLine classAnswer
+classLine area n k = answeredLine area n k (classAnswer k)
+
+-- those of c classes from k on
+unfoldable pub linesFrom : List ℕ → ℕ → ℕ → ℕ → List ℕ
+unfolding classLine
+linesFrom area n k zero = []
+linesFrom area n k (suc c) = classLine area n k ++ linesFrom area n (suc k) c
+
+-- document 01's six classes
+unfoldable pub lines : List ℕ → ℕ → List ℕ
+unfolding linesFrom
+lines area n = linesFrom area n 0 6

@@ -1,2 +1,0 @@
-pub mod Lines
-pub mod DocumentLines

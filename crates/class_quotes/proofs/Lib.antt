@@ -1,3 +1,0 @@
--- The laws of what is printed.
-pub mod NetA
-pub mod Reported
