@@ -1,4 +1,4 @@
--- `station::check::check` meets its contract: one part of well-formedness after the other.
+-- `area_check::check::check` meets its contract: one part of well-formedness after the other.
 -- Assumes nothing.
 use mathlib.Core.Path.{sym, _∙_}
 use native.Mathlib.Omega.{arith}

@@ -1,4 +1,4 @@
--- `station::units::take_circuit` meets its contract: the lent part of the words is the circuit's path.
+-- `area_check::units::take_circuit` meets its contract: the lent part of the words is the circuit's path.
 -- Assumes nothing.
 use mathlib.Core.Path.{_≡_}
 use mathlib.Core.Bool.{Bool, true}

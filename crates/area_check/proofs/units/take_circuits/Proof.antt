@@ -1,4 +1,4 @@
--- `station::units::take_circuits` meets its contract: after each circuit, what is free and what is used come to each
+-- `area_check::units::take_circuits` meets its contract: after each circuit, what is free and what is used come to each
 -- link's capacity.
 -- Assumes nothing.
 use mathlib.Core.Path.{_≡_, sym, _∙_, ap, subst}

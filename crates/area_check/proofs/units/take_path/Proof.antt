@@ -1,4 +1,4 @@
--- `station::units::take_path` meets its contract: what is still to do comes to the same in every turn.
+-- `area_check::units::take_path` meets its contract: what is still to do comes to the same in every turn.
 -- Assumes nothing.
 use mathlib.Core.Path.{_≡_, refl, _∙_}
 use mathlib.Core.Bool.{false≢true}

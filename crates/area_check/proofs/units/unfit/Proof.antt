@@ -1,4 +1,4 @@
--- `station::units::unfit` meets its contract: an array of zeros reads 0 everywhere.
+-- `area_check::units::unfit` meets its contract: an array of zeros reads 0 everywhere.
 -- Assumes nothing.
 use mathlib.Core.Path.{refl}
 use native.Mathlib.Omega.{arith}

@@ -1,4 +1,4 @@
--- `station::circuits::circuit_fits` meets its contract: one range after the other, then the path, whose length the third
+-- `area_fit::circuits::circuit_fits` meets its contract: one range after the other, then the path, whose length the third
 -- range bounds.
 -- Assumes nothing.
 use native.Mathlib.Omega.{arith}

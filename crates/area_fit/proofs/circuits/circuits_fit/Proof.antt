@@ -1,4 +1,4 @@
--- `station::circuits::circuits_fit` meets its contract: every place that was passed fits.
+-- `area_fit::circuits::circuits_fit` meets its contract: every place that was passed fits.
 -- Assumes nothing.
 use mathlib.Core.Path.{_≡_, sym, _∙_}
 use mathlib.Core.Bool.{true}

@@ -1,4 +1,4 @@
--- `station::circuits::path_fits` meets its contract: what is left of the path, from the node reached and with the nodes
+-- `area_fit::circuits::path_fits` meets its contract: what is left of the path, from the node reached and with the nodes
 -- passed, fits exactly if the whole path does.
 -- Assumes nothing.
 use mathlib.Core.Path.{_≡_}

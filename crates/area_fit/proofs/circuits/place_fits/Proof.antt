@@ -1,4 +1,4 @@
--- `station::circuits::place_fits` meets its contract: the circuit's words are tested, and its number is looked for among
+-- `area_fit::circuits::place_fits` meets its contract: the circuit's words are tested, and its number is looked for among
 -- the places before.
 -- Assumes nothing.
 use borrow.Author.Needs.{needs}

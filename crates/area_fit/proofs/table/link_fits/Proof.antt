@@ -1,4 +1,4 @@
--- `station::table::link_fits` meets its contract: one range after the other.
+-- `area_fit::table::link_fits` meets its contract: one range after the other.
 -- Assumes nothing.
 use borrow.Author.Needs.{needs}
 use native.Mathlib.Omega.{arith}

@@ -1,4 +1,4 @@
--- `station::table::links_fit` meets its contract: every link that was passed fits.
+-- `area_fit::table::links_fit` meets its contract: every link that was passed fits.
 -- Assumes nothing.
 use mathlib.Core.Path.{_≡_, sym, _∙_}
 use mathlib.Core.Bool.{true}

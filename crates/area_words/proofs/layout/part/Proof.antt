@@ -1,4 +1,4 @@
--- `area::layout::part` meets its contract: a lent part of the words is the words read from its start on.
+-- `area_words::layout::part` meets its contract: a lent part of the words is the words read from its start on.
 -- Assumes nothing.
 use mathlib.Core.Path.{_≡_, _∙_, ap}
 use mathlib.Core.List.{List}

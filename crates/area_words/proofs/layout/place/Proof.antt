@@ -1,4 +1,4 @@
--- `area::layout::place` meets its contract: the sum that it answers is the one that the contract names.
+-- `area_words::layout::place` meets its contract: the sum that it answers is the one that the contract names.
 -- Assumes nothing.
 use mathlib.Core.Path.{refl}
 use borrow.Author.Needs.{needs}

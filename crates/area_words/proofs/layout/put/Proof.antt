@@ -1,4 +1,4 @@
--- `area::layout::put` meets its contract: what is still to store, stored from here, comes to the same.
+-- `area_words::layout::put` meets its contract: what is still to store, stored from here, comes to the same.
 -- Assumes nothing.
 use mathlib.Core.Path.{_≡_, refl, _∙_}
 use Prim.Native.Nat.{_+_, _-_, _≤_}

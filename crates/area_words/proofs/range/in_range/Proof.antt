@@ -1,4 +1,4 @@
--- `area::range::in_range` meets its contract: one test after the other.
+-- `area_words::range::in_range` meets its contract: one test after the other.
 -- Assumes nothing.
 use native.Mathlib.Omega.{arith}
 use borrow.Author.Tests.{lt-leb, le-leb}

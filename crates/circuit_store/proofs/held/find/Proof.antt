@@ -1,4 +1,4 @@
--- `area::held::find` meets its contract: no circuit that was passed has the number.
+-- `circuit_store::held::find` meets its contract: no circuit that was passed has the number.
 -- Assumes nothing.
 use mathlib.Core.Path.{_≡_, sym, ap, _∙_}
 use mathlib.Core.List.{List}

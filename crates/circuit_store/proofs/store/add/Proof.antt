@@ -1,4 +1,4 @@
--- `area::store::add` meets its contract: its stores are those of an admission.
+-- `circuit_store::store::add` meets its contract: its stores are those of an admission.
 -- Assumes nothing.
 use mathlib.Core.Path.{ap, _∙_}
 use native.Mathlib.Omega.{arith}

@@ -1,4 +1,4 @@
--- `area::store::close` meets its contract: what is still to move, moved from here, comes to the same.
+-- `circuit_store::store::close` meets its contract: what is still to move, moved from here, comes to the same.
 -- Assumes nothing.
 use mathlib.Core.Path.{_≡_, refl, _∙_}
 use Prim.Native.Nat.{_-_, _≤_}

@@ -1,4 +1,4 @@
--- `area::store::remove` meets its contract: its stores are those of a release.
+-- `circuit_store::store::remove` meets its contract: its stores are those of a release.
 -- Assumes nothing.
 use native.Mathlib.Omega.{arith}
 use borrow.Author.Needs.{needs}

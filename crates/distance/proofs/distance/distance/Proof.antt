@@ -1,4 +1,4 @@
--- `route::distance::distance` meets its contract: before turn k the set is layer k, and no earlier layer has the target.
+-- `distance::distance::distance` meets its contract: before turn k the set is layer k, and no earlier layer has the target.
 -- Assumes nothing.
 use mathlib.Core.Path.{_≡_, _∙_}
 use mathlib.Core.Bool.{Bool, false}

@@ -1,4 +1,4 @@
--- `route::distance::spread` meets its contract: the loop is the model's, turn by turn.
+-- `distance::distance::spread` meets its contract: the loop is the model's, turn by turn.
 -- Assumes nothing.
 use mathlib.Core.Path.{_≡_}
 use Prim.Native.Nat.{_≤_, _-_}

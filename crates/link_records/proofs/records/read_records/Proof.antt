@@ -1,4 +1,4 @@
--- `link_file::records::read_records` meets its contract: what is still to store, stored from here, comes to the same.
+-- `link_records::records::read_records` meets its contract: what is still to store, stored from here, comes to the same.
 -- Assumes nothing.
 use mathlib.Core.Path.{_≡_, refl, _∙_}
 use Prim.Native.Nat.{_*_, _-_, _≤_}

@@ -1,4 +1,4 @@
--- `link_file::word::half` meets its contract: the sum of both bytes, the second by 256, is below 65,536.
+-- `link_records::word::half` meets its contract: the sum of both bytes, the second by 256, is below 65,536.
 -- Assumes nothing.
 use borrow.Author.Needs.{needs}
 use Rattle.link_records.proofs.word.half.Statement.{statement}

@@ -1,4 +1,4 @@
--- `link_file::word::is_signed` meets its contract: the length and the letters are looked at in the definition's order, and
+-- `link_records::word::is_signed` meets its contract: the length and the letters are looked at in the definition's order, and
 -- the first that differs decides.
 -- Assumes nothing.
 use mathlib.Core.Path.{_≡_}

@@ -1,4 +1,4 @@
--- `link_file::word::word` meets its contract: the sum that it answers is the one that the definition names, and four
+-- `link_records::word::word` meets its contract: the sum that it answers is the one that the definition names, and four
 -- bytes make less than 2 ^ 32.
 -- Assumes nothing.
 use borrow.Author.Needs.{needs}

@@ -1,4 +1,4 @@
--- `network::link::column` meets its contract: the loop fills the column entry by entry, and past the table's end both sides are 0.
+-- `links::link::column` meets its contract: the loop fills the column entry by entry, and past the table's end both sides are 0.
 -- Assumes nothing.
 use mathlib.Core.Path.{_≡_}
 use mathlib.Core.List.{List}

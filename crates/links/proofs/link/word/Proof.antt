@@ -1,4 +1,4 @@
--- `network::link::word` meets its contract: the word that it reads is the one that the contract names.
+-- `links::link::word` meets its contract: the word that it reads is the one that the contract names.
 -- Assumes nothing.
 use mathlib.Core.Path.{refl}
 use borrow.Author.Needs.{needs}

@@ -1,4 +1,4 @@
--- `network::node_set::contains` meets its contract.
+-- `links::node_set::contains` meets its contract.
 -- Assumes nothing.
 use mathlib.Core.Path.{refl}
 use borrow.Author.Needs.{needs}

@@ -1,4 +1,4 @@
--- `network::node_set::insert` meets its contract: a power of two below 2 ^ 32 is not cut off.
+-- `links::node_set::insert` meets its contract: a power of two below 2 ^ 32 is not cut off.
 -- Assumes nothing.
 use lib.Pow.{pow-lt}
 use native.Mathlib.Nat.{mod-eq-of-lt, one-mul}

@@ -1,4 +1,4 @@
--- `network::scale::scale` meets its contract: the product of a weight and x fits a word.
+-- `links::scale::scale` meets its contract: the product of a weight and x fits a word.
 -- Assumes nothing.
 use borrow.Author.Needs.{needs}
 use Prim.Native.Nat.{ℕ, _*_, _≤_}

@@ -1,4 +1,4 @@
--- `route::path::advance` meets its contract: each return is one way through the test of `advanced`, a listed link leads
+-- `path_words::path::advance` meets its contract: each return is one way through the test of `advanced`, a listed link leads
 -- to a node and adds a million at most to each sum. Assumes nothing.
 use borrow.Author.Needs.{needs}
 use native.Mathlib.Omega.{arith}

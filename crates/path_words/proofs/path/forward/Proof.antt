@@ -1,4 +1,4 @@
--- `route::path::forward` meets its contract. The loop's invariant: the leg and the path are those after `k` turns, the
+-- `path_words::path::forward` meets its contract. The loop's invariant: the leg and the path are those after `k` turns, the
 -- path has kept its length, and the leg has `k` links at most. The measure is the turns left. Assumes nothing.
 use mathlib.Core.List.{[]}
 use mathlib.Core.Path.{_≡_, refl, _∙_}

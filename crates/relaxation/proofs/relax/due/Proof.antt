@@ -1,4 +1,4 @@
--- `route::relax::due` meets its contract, case by case.
+-- `relaxation::relax::due` meets its contract, case by case.
 -- Assumes nothing.
 use mathlib.Core.Bool.{true≢false}
 use borrow.Author.Tests.{not-true}

@@ -1,4 +1,4 @@
--- `route::relax::improve` meets its contract, case by case.
+-- `relaxation::relax::improve` meets its contract, case by case.
 -- Assumes nothing.
 use mathlib.Core.Path.{refl}
 use mathlib.Core.Bool.{true≢false}

@@ -1,4 +1,4 @@
--- `route::relax::offer` meets its contract: a link is tried where its flag is 1, and `relax` asks for no flag.
+-- `relaxation::relax::offer` meets its contract: a link is tried where its flag is 1, and `relax` asks for no flag.
 -- Assumes nothing.
 use mathlib.Core.Path.{_∙_}
 use Rattle.relaxation.proofs.Steps.{relaxed-unflagged, offered-unusable, offered-usable, flag-on, flag-off, own-same}

@@ -1,4 +1,4 @@
--- `route::relax::read_hop` meets its contract: the table's ranges bound the ends and the weight.
+-- `relaxation::relax::read_hop` meets its contract: the table's ranges bound the ends and the weight.
 -- Assumes nothing.
 use native.Mathlib.Omega.{arith}
 use borrow.Author.Needs.{needs}

@@ -1,4 +1,4 @@
--- `route::relax::relax` meets its contract: over x nothing is offered, within x the two cells are compared.
+-- `relaxation::relax::relax` meets its contract: over x nothing is offered, within x the two cells are compared.
 -- Assumes nothing.
 use mathlib.Core.Path.{_∙_}
 use native.Mathlib.Omega.{arith}

@@ -1,4 +1,4 @@
--- `booking::checks::refusal` meets its contract: one check after the other, in document 01's order.
+-- `request_checks::checks::refusal` meets its contract: one check after the other, in document 01's order.
 -- Assumes nothing.
 use mathlib.Core.Path.{sym, _∙_}
 use native.Mathlib.Omega.{arith}

@@ -1,4 +1,4 @@
--- `booking::request::number_fits` meets its contract: a number in its range fits where it is found at no place.
+-- `request_checks::request::number_fits` meets its contract: a number in its range fits where it is found at no place.
 -- Assumes nothing.
 use Prim.Native.Nat.{ℕ, _≤_}
 use mathlib.Core.Path.{_≡_, sym, ap, _∙_}

@@ -1,4 +1,4 @@
--- `booking::request::request_fits` meets its contract: one range after the other.
+-- `request_checks::request::request_fits` meets its contract: one range after the other.
 -- Assumes nothing.
 use mathlib.Core.Path.{sym, _∙_}
 use native.Mathlib.Omega.{arith}

@@ -1,4 +1,4 @@
--- `route::rounds::relax_links` meets its contract: the table is `column` as far as the links were tried.
+-- `rounds::rounds::relax_links` meets its contract: the table is `column` as far as the links were tried.
 -- Assumes nothing.
 use mathlib.Core.Path.{_≡_, refl, _∙_}
 use mathlib.Core.Bool.{false}

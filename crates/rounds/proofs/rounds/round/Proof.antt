@@ -1,4 +1,4 @@
--- `route::rounds::round` meets its contract: the table is `round` as far as k has risen.
+-- `rounds::rounds::round` meets its contract: the table is `round` as far as k has risen.
 -- Assumes nothing.
 use mathlib.Core.Path.{_≡_, refl, _∙_}
 use mathlib.Core.Bool.{false}

@@ -1,4 +1,4 @@
--- `route::rounds::rounds` meets its contract: a round that changed nothing leaves nothing for the rest of them.
+-- `rounds::rounds::rounds` meets its contract: a round that changed nothing leaves nothing for the rest of them.
 -- Assumes nothing.
 use mathlib.Core.Path.{_≡_, refl, _∙_}
 use Prim.Native.Nat.{_-_, _≤_}

@@ -1,4 +1,4 @@
--- `booking::seek::numbered` meets its contract: each arm is given that `found` is its variant, at which `told` computes.
+-- `seek::seek::numbered` meets its contract: each arm is given that `found` is its variant, at which `told` computes.
 -- Assumes nothing.
 use mathlib.Core.Path.{sym, ap}
 use borrow.Author.Needs.{needs}

@@ -1,4 +1,4 @@
--- `booking::seek::seek` meets its contract: the network that it searches is the one that the request sees.
+-- `seek::seek::seek` meets its contract: the network that it searches is the one that the request sees.
 -- Assumes nothing.
 use mathlib.Core.Path.{ap, _∙_}
 use native.Mathlib.Omega.{arith}

@@ -1,4 +1,4 @@
--- `route::table::cells` meets its contract.
+-- `table::table::cells` meets its contract.
 -- Assumes nothing.
 use mathlib.Core.Path.{refl}
 use native.Mathlib.Omega.{arith}

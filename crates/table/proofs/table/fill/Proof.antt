@@ -1,4 +1,4 @@
--- `route::table::fill` meets its contract: the words are `filled` as far as the loop has come.
+-- `table::table::fill` meets its contract: the words are `filled` as far as the loop has come.
 -- Assumes nothing.
 use mathlib.Core.Path.{_≡_, refl}
 use Prim.Native.Nat.{_+_, _*_, _-_, _≤_}

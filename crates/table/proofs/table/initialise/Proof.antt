@@ -1,4 +1,4 @@
--- `route::table::initialise` meets its contract: all cells, then the row of s.
+-- `table::table::initialise` meets its contract: all cells, then the row of s.
 -- Assumes nothing.
 use native.Mathlib.Omega.{arith}
 use Rattle.table.proofs.Rows.{row-fits}

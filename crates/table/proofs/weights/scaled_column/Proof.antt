@@ -1,4 +1,4 @@
--- `route::weights::scaled_column` meets its contract: the loop fills the column entry by entry, and a weight of 0 is scaled to 0.
+-- `table::weights::scaled_column` meets its contract: the loop fills the column entry by entry, and a weight of 0 is scaled to 0.
 -- Assumes nothing.
 use mathlib.Core.Path.{_≡_}
 use Prim.Native.Nat.{ℕ, _-_, _≤_, _<_}

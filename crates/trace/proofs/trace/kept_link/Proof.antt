@@ -1,4 +1,4 @@
--- `route::trace::kept_link` meets its contract: the cell is within the table, and its link word follows its number.
+-- `trace::trace::kept_link` meets its contract: the cell is within the table, and its link word follows its number.
 -- Assumes nothing.
 use borrow.Author.Needs.{needs}
 use Rattle.trace.proofs.trace.kept_link.Statement.{statement}

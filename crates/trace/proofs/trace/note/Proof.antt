@@ -1,4 +1,4 @@
--- `route::trace::note` meets its contract: the test of the set is the test of the definition.
+-- `trace::trace::note` meets its contract: the test of the set is the test of the definition.
 -- Assumes nothing.
 use mathlib.Core.Path.{sym, _∙_}
 use borrow.Author.Needs.{needs}

@@ -1,4 +1,4 @@
--- `route::trace::step_back` meets its contract: each return is one way through the test of `stepBack`, and the ends of
+-- `trace::trace::step_back` meets its contract: each return is one way through the test of `stepBack`, and the ends of
 -- a listed link are nodes below 32. Assumes nothing.
 use borrow.Author.Needs.{needs}
 use native.Mathlib.Omega.{arith}

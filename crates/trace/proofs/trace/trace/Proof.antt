@@ -1,4 +1,4 @@
--- `route::trace::trace` meets its contract. The loop's invariant: the trail and the notes are those after `counter`
+-- `trace::trace::trace` meets its contract. The loop's invariant: the trail and the notes are those after `counter`
 -- turns, and the trail is on the table; at s no further turn changes them. The measure is the turns left.
 -- Assumes nothing.
 use mathlib.Core.Path.{_≡_, ap}

@@ -1,0 +1,68 @@
+-- A list of calls from a loaded area, in which the refusals 6, 7, 8, 9, 10, 11 and 13, grants of both problems and a
+-- release occur (12 stands in Full.antt); and quotes that are struck from it.
+-- Assumes nothing.
+use Prim.Native.Nat.{ℕ}
+use mathlib.Core.Path.{_≡_, refl}
+use mathlib.Core.List.{List, [], _∷_, map}
+use native.Mathlib.Omega.{arith}
+use lib.ListN.{length}
+use Rattle.network.specs.Loops.{iter, first}
+use Rattle.network.specs.Scale.{scaled}
+use Rattle.network.specs.Cut.{noted, follow}
+use Rattle.network.specs.Reduce.{problemOne, problemTwo}
+use Rattle.ebf.specs.Table.{cell, cells, filled, initialised, improved, relaxed, offered, column, round, rounds, ebf}
+use Rattle.ebf.specs.Trace.{trailBack, stepBack, traced}
+use Rattle.ebf.specs.Solve.{pathIn, answerIn, solveIn, solve}
+use Rattle.ebf.specs.Distance.{spread, layer, distance}
+use Rattle.ebf.specs.Search.{tried, search}
+use Rattle.area.specs.Station.{tableIn, circuitOf}
+use Rattle.area.specs.Order.{Same}
+use Rattle.station.specs.declared.Loading.the-variants.{Loaded}
+use Rattle.station.specs.Load.{loadAnswer, areaLoaded}
+use Rattle.rules.specs.Calls.{quote, admission, booked, release, cleared}
+use Rattle.ledger.specs.Ledger.{admitting, releasing}
+use Rattle.ledger.specs.History.{Lending, Event, history, answers, areaAtEnd, bookings, Struck, end, strike, keep, remaining}
+use Rattle.ledger.specs.Demand.{ThirdDemand}
+use Rattle.ledger.proofs.Demands.{third-demand}
+use Rattle.instances.specs.Nets.{linksA, three, m3}
+use Rattle.instances.specs.Areas.{blank, circuit}
+use Rattle.instances.specs.Calls.{work, room, calls, replies, unquoted}
+
+-- ---- the third demand's premise is met, so it holds of the list
+pub accepted : loadAnswer blank 4 linksA ≡ Loaded
+unfolding loadAnswer
+accepted = refl
+
+pub demand-met : ThirdDemand blank 4 linksA calls
+demand-met = third-demand 4 linksA blank accepted calls
+
+-- ---- the replies to the list, and the bookings in the end
+abbrev pub start : List ℕ
+start = areaLoaded blank 4 linksA
+
+pub list-replies : (map (λ (e : Event). e .reply) (history start calls) ≡ replies)
+    × (bookings (areaAtEnd start calls) ≡ circuit 8 1 three ∷ [])
+unfolding areaLoaded quote admission booked release cleared tableIn circuitOf search tried solve solveIn answerIn pathIn ebf rounds round column offered relaxed improved initialised filled cell cells traced stepBack trailBack noted follow distance layer spread problemOne problemTwo scaled iter first
+list-replies = (refl, refl)
+
+-- ---- quotes struck
+-- six quotes are struck, and the calls that remain are lent other words
+pub quotes-struck : Struck calls unquoted
+quotes-struck =
+    strike (strike (strike (keep refl (keep refl (strike (strike (keep refl (keep refl (keep refl (strike end))))))))))
+
+-- so the answers to these calls, and the bookings in the end, are those of the whole list
+pub struck-agree : (answers start unquoted ≡ remaining quotes-struck (answers start calls))
+    × Same (bookings (areaAtEnd start unquoted)) (bookings (areaAtEnd start calls))
+struck-agree = demand-met .struck blank accepted unquoted quotes-struck
+
+-- an admission is never struck
+kept : {c : ℕ} {ds : List Lending} → Struck (admitting (work 0) (room 0) c m3 ∷ []) ds → length ds ≡ 1
+kept (keep e end) = refl
+
+pub admission-stays : Struck (admitting (work 0) (room 0) 7 m3 ∷ []) [] → ⊥
+admission-stays s = omega (arith, kept s)
+
+-- and a call that remains keeps its numbers
+pub number-stays : Struck (releasing 7 ∷ []) (releasing 8 ∷ []) → ⊥
+number-stays (keep e end) = let z : _≡_ {A = ℕ} 7 8 = cc in omega (arith, z)

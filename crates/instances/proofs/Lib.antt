@@ -1,0 +1,12 @@
+pub mod Paths
+pub mod Problems
+pub mod Searches
+pub mod Areas
+pub mod Stations
+pub mod Bookings
+pub mod Premises
+pub mod Full
+pub mod Rules
+pub mod Histories
+pub mod LinkFiles
+pub mod Classes

@@ -1,0 +1,146 @@
+-- What a search relies on can be met, and is not always met; networks that a search cannot tell apart, and some that it
+-- can; a table with every link of a column settled, and one without.
+-- Assumes nothing.
+use Prim.Native.Nat.{ℕ, zero, suc, _+_, _≤_, _<_}
+use mathlib.Core.Path.{_≡_, refl, sym, ap}
+use mathlib.Core.Bool.{true, false, true≢false}
+use mathlib.Core.List.{List, [], _∷_}
+use native.Mathlib.Omega.{arith}
+use borrow.Author.Tests.{leb-true}
+use lib.Dec.{leb}
+use lib.ListN.{replicate, length-replicate}
+use Rattle.network.specs.Loops.{iter, every}
+use Rattle.network.proofs.Loops.{every-at}
+use Rattle.network.specs.Net.{Net, Ends}
+use Rattle.network.specs.Words.{netOf, LinkWords}
+use Rattle.network.specs.Scale.{scaled}
+use Rattle.network.specs.Problem.{Problem}
+use Rattle.network.specs.Reduce.{problemOne, one}
+use Rattle.ebf.specs.Alike.{Alike}
+use Rattle.ebf.specs.Table.{cell, cells, number, filled, initialised, improved, relaxed, offered, column, round, rounds, ebf}
+use Rattle.ebf.specs.Settled.{SettledColumn}
+use Rattle.route.specs.Ready.{Ready}
+use Rattle.route.specs.Result.{Searchable}
+use Rattle.route.proofs.Result.{ready-searchable}
+use Rattle.instances.specs.Nets.{linksA, netA, shutA, between, m3}
+use Rattle.instances.proofs.Problems.{links-fit}
+
+-- ---- the ranges and lengths
+pub link-words : LinkWords 4 4 linksA
+link-words =
+    record {
+      whole = refl;
+      from = λ i low. links-fit i low .from;
+      to = λ i low. links-fit i low .to;
+      delay = λ i low. links-fit i low .delay;
+      cost = λ i low. links-fit i low .cost;
+    }
+
+-- not between three nodes: link 2 leads to node 3
+pub link-words-high : LinkWords 3 4 linksA → ⊥
+link-words-high h = let high = h .to 2 (omega arith) in omega (arith, high)
+
+-- the ends of net A's links are nodes of four (`ends` of Problems.antt), and not of three
+pub ends-high : Ends (netOf 3 4 linksA (replicate 4 1)) → ⊥
+unfolding netOf
+ends-high h = let high = h .heads 2 (omega arith) in omega (arith, high)
+
+-- M3 on net A, with work memory and path buffer of the lengths asked for
+pub ready : Ready 4 4 linksA (replicate 4 1) (replicate 16384 0) (replicate 31 0) m3
+ready =
+    record {
+      table = record { nodes-some = omega arith; nodes-most = omega arith; links-most = omega arith; words = link-words };
+      flags = omega arith;
+      memory = omega (arith, length-replicate {A = ℕ} 16384 0);
+      buffer = omega arith;
+      source = omega arith;
+      target = omega arith;
+      apart = λ e. omega (arith, e);
+      delay-some = omega arith;
+      delay-most = omega arith;
+      cost-some = omega arith;
+      cost-most = omega arith;
+      coefficient-some = omega arith;
+      coefficient-most = omega arith;
+    }
+
+-- not with a word less of work memory
+pub unready : Ready 4 4 linksA (replicate 4 1) (replicate 16383 0) (replicate 31 0) m3 → ⊥
+unready h = let long = h .memory in omega (arith, long, length-replicate {A = ℕ} 16383 0)
+
+pub searchable : Searchable netA m3
+unfolding netOf
+searchable = ready-searchable 4 4 linksA (replicate 4 1) (replicate 16384 0) (replicate 31 0) m3 ready
+
+-- not from a node to itself
+pub unsearchable : Searchable netA (between 0 0 1 8 20 8) → ⊥
+unsearchable h = h .apart refl
+
+-- ---- networks alike
+-- net A with other capacities, a word and a flag more
+abbrev pub other : Net
+unfolding netOf
+other =
+    netOf 4 4 (0 ∷ 1 ∷ 2 ∷ 5 ∷ 9 ∷ 1 ∷ 2 ∷ 2 ∷ 5 ∷ 9 ∷ 2 ∷ 3 ∷ 2 ∷ 5 ∷ 9 ∷ 0 ∷ 3 ∷ 9 ∷ 1 ∷ 9 ∷ 7 ∷ []) (replicate 5 1)
+
+-- what agrees at each link of four
+four : {A : Type 0} (f h : ℕ → A) → f 0 ≡ h 0 → f 1 ≡ h 1 → f 2 ≡ h 2 → f 3 ≡ h 3 → (i : ℕ) → i < 4 → f i ≡ h i
+four f h a b c d zero low = a
+four f h a b c d (suc zero) low = b
+four f h a b c d (suc (suc zero)) low = c
+four f h a b c d (suc (suc (suc zero))) low = d
+four f h a b c d (suc (suc (suc (suc i)))) low = absurd (omega (arith, low))
+
+pub alike : Alike netA other
+unfolding netOf
+alike =
+    record {
+      nodes = refl;
+      links = refl;
+      tail = four (netA .tail) (other .tail) refl refl refl refl;
+      head = four (netA .head) (other .head) refl refl refl refl;
+      usable = four (netA .usable) (other .usable) refl refl refl refl;
+      delay = four (netA .delay) (other .delay) refl refl refl refl;
+      cost = four (netA .cost) (other .cost) refl refl refl refl;
+    }
+
+-- and the two are not the same
+pub not-same : netA ≡ other → ⊥
+unfolding netOf
+not-same e = true≢false (sym (ap (λ (g : Net). g .usable 4) e))
+
+-- net A and net A with no usable link are not alike
+pub not-alike : Alike netA shutA → ⊥
+unfolding netOf
+not-alike h = true≢false (h .usable 0 (omega arith))
+
+-- ---- settled links, for M3's problem one and column 0
+abbrev pub problem : Problem
+problem = one netA m3 1
+
+-- a table of 4 nodes and 9 columns, as it is first, and when the rounds are done
+abbrev pub at-first : List ℕ
+at-first = initialised netA problem 0 (replicate 72 0)
+
+abbrev pub at-last : List ℕ
+at-last = ebf netA problem 0 (replicate 72 0)
+
+-- at first link 0 has something to offer
+pub unsettled : SettledColumn netA problem 0 at-first → ⊥
+unfolding netOf problemOne scaled initialised filled cell cells iter
+unsettled h = let settled = h 0 (omega arith) refl (omega arith) (omega arith) in omega (arith, settled)
+
+-- in the end no link has
+abbrev there : ℕ → ℕ
+there i = number at-last (cell (problem .x) (netA .head i) (0 + problem .scaledBy i))
+
+abbrev offer : ℕ → ℕ
+offer i = number at-last (cell (problem .x) (netA .tail i) 0) + problem .kept i
+
+no-more : (i : ℕ) → i < 4 → there i ≤ offer i
+unfolding netOf problemOne scaled initialised filled cell cells iter improved relaxed offered column round rounds ebf every
+no-more i low = leb-true (there i) (offer i) (every-at (λ j. leb (there j) (offer j)) i 4 low refl)
+
+pub settled-column : SettledColumn netA problem 0 at-last
+unfolding netOf
+settled-column i low usable allowed reached = no-more i low

@@ -1,0 +1,58 @@
+-- A list of calls on net A in which every refusal but 12 occurs that a list from a loaded area can meet, with grants of
+-- both problems and a release; the replies; and the list with its quotes struck.
+-- Assumes nothing.
+use Prim.Native.Nat.{ℕ}
+use mathlib.Core.List.{List, [], _∷_}
+use lib.ListN.{replicate}
+use Rattle.network.specs.declared.Request.{Request}
+use Rattle.rules.specs.Replies.{Reply, refuses, grants, releases}
+use Rattle.ledger.specs.Ledger.{quoting, admitting, releasing}
+use Rattle.ledger.specs.History.{Lending}
+use Rattle.instances.specs.Nets.{three, between, asks, m3, m4}
+
+-- work memory and path buffer of the lengths asked for, filled with a number
+abbrev pub work : ℕ → List ℕ
+work v = replicate 16384 v
+
+abbrev pub room : ℕ → List ℕ
+room v = replicate 31 v
+
+abbrev quotes : Request → Lending
+quotes r = quoting (work 0) (room 0) r
+
+abbrev admits : ℕ → ℕ → Request → Lending
+admits v c r = admitting (work v) (room v) c r
+
+abbrev pub calls : List Lending
+calls =
+    quoting (replicate 8 0) (room 0) m3
+    ∷ quoting (work 0) (replicate 8 0) m3
+    ∷ quotes (between 0 0 1 8 20 8)
+    ∷ admits 0 7 (asks 4 8 20 8)
+    ∷ admits 0 7 m3
+    ∷ quotes (asks 11 8 20 8)
+    ∷ quotes (asks 7 8 20 8)
+    ∷ admits 0 8 m4
+    ∷ releasing 9
+    ∷ releasing 7
+    ∷ quotes m3
+    ∷ []
+
+abbrev pub replies : List Reply
+replies =
+    refuses 6
+    ∷ refuses 7
+    ∷ refuses 8
+    ∷ grants 1 6 15 three
+    ∷ refuses 11
+    ∷ refuses 9
+    ∷ refuses 10
+    ∷ grants 2 6 15 three
+    ∷ refuses 13
+    ∷ releases
+    ∷ grants 1 6 15 three
+    ∷ []
+
+-- the calls that remain, lent other words
+abbrev pub unquoted : List Lending
+unquoted = admits 1 7 (asks 4 8 20 8) ∷ admits 1 7 m3 ∷ admits 1 8 m4 ∷ releasing 9 ∷ releasing 7 ∷ []
