@@ -5,9 +5,9 @@ ghost use lib.ListN.{length};
 ghost use Rattle.area.specs.Station.{circuitOf, circuits};
 ghost use Rattle.area.specs.Formed.{goesOn, pathFits, circuitFits, heldFit};
 ghost use Rattle.area_fit.specs.Ready.{Links, Room, placeFits};
-use circuit_store::held::find;
 use area_words::layout;
 use area_words::range::in_range;
+use circuit_store::held::find;
 use links::link;
 use links::node_set;
 

@@ -4,16 +4,16 @@ ghost use lib.ListN.{length};
 ghost use Rattle.rules.specs.Replies.{answerOf, pathAfter};
 ghost use Rattle.rules.specs.Calls.{quote, admission, booked, release, cleared};
 ghost use Rattle.rules.specs.Meaning.{Quoted, Admitted, Cleared};
-use rules::Answer;
+use area_check::check::check;
+use area_words::layout;
+use circuit_store::held::find;
+use circuit_store::store;
+use links::link;
+use network::Request;
 use request_checks::checks::refusal;
 use request_checks::request::number_fits;
+use rules::Answer;
 use seek::seek::seek;
-use circuit_store::held::find;
-use area_words::layout;
-use circuit_store::store;
-use network::Request;
-use links::link;
-use area_check::check::check;
 
 // Most circuits held.
 const CIRCUITS: u32 = 64;

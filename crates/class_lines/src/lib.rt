@@ -6,12 +6,12 @@ ghost use Prim.Native.Nat.{_+_, _≤_};
 ghost use lib.ListN.{length};
 ghost use lib.Seq.{sets};
 ghost use Rattle.class_format.specs.Lines.{line, requestOf, quoteLine, classLine, lines};
-use rules::Answer;
 use booking::calls::quote;
 use classes::Service;
-use network::Request;
 use links::link;
+use network::Request;
 use route::Grant;
+use rules::Answer;
 
 // Class, 0, number.
 fn put_refused(text: &mut [u8; 4096], at: usize, class: u32, number: u32) -> usize

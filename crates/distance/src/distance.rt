@@ -2,9 +2,8 @@
 ghost use mathlib.Core.Path.{_≡_};
 ghost use Prim.Native.Nat.{_≤_, _<_};
 ghost use lib.ListN.{length};
-ghost use Rattle.network.specs.Words.{netOf};
+ghost use Rattle.network.specs.Words.{netOf, Links};
 ghost use Rattle.ebf.specs.Distance.{spreadLink, spread, distance};
-ghost use Rattle.network.specs.Words.{Links};
 use links::link;
 use links::node_set;
 

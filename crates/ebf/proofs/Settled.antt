@@ -14,7 +14,7 @@ use Rattle.network.specs.Net.{Net}
 use Rattle.network.specs.Problem.{Problem}
 use Rattle.network.proofs.Loops.{iter-keeps}
 use Rattle.network.proofs.Tests.{by-test, by-lt, by-eq}
-use Rattle.ebf.specs.Table.{cell, number, put, improved, allowed, relaxed, isEdge, offered, column, round}
+use Rattle.ebf.specs.Table.{number, improved, allowed, relaxed, isEdge, offered, column, round}
 use Rattle.ebf.specs.Settled.{Settled, SettledColumn}
 use Rattle.ebf.proofs.Decided.{small-allowed, allowed-small}
 use Rattle.ebf.proofs.Cells.{cell-column, number-put-same, number-put-other, put-lower}

@@ -11,10 +11,10 @@ use crate::kinds::RELEASE;
 use crate::kinds::SHORT_PATH;
 use crate::kinds::SHORT_WORK;
 use crate::show;
-use rules::Answer;
 use booking::calls;
-use network::Request;
 use links::link;
+use network::Request;
+use rules::Answer;
 
 // The list of calls. A row is kind, circuit number, source, target, units, delay bound, cost bound and coefficient; a
 // number that plays no part is 0.

@@ -1,6 +1,6 @@
 // What the program prints: numbers, answers, and readings of the area.
-use rules::Answer;
 use route::Grant;
+use rules::Answer;
 use station::Reading;
 
 pub(crate) fn text(words: &[u8]) {

@@ -9,8 +9,7 @@ use native.Mathlib.Omega.{arith}
 use lib.ListN.{length}
 use Rattle.network.specs.declared.Request.{Request}
 use Rattle.area.specs.Station.{station}
-use Rattle.area.specs.Books.{books}
-use Rattle.area.specs.Books.{Books, books}
+use Rattle.area.specs.Books.{books, Books, books}
 use Rattle.area.specs.Formed.{WellFormed, wellFormed}
 use Rattle.area.specs.Moves.{withoutNumber}
 use Rattle.area.specs.Order.{Agrees}

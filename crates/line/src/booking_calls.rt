@@ -5,9 +5,9 @@ ghost use Rattle.rules.specs.Replies.{answerOf, pathAfter};
 ghost use Rattle.rules.specs.Calls.{quote, admission, booked, release, cleared};
 ghost use Rattle.rules.specs.Meaning.{Quoted, Admitted, Cleared};
 ghost use Rattle.line.specs.Codes.{asked, answerCode, grantWords};
-use rules::Answer;
 use booking::calls;
 use network::Request;
+use rules::Answer;
 
 // 0 for a grant or a release, else document 01's number.
 fn code(a: Answer) -> u32

@@ -6,7 +6,6 @@
 ghost use mathlib.Core.Path.{_≡_};
 ghost use lib.ListN.{length};
 ghost use Rattle.link_format.specs.Reading.{readAnswer, tableRead};
-
 use link_format::Reading;
 use link_format::Size;
 use link_records::records::read_records;

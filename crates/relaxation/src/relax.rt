@@ -7,9 +7,9 @@ ghost use Rattle.ebf.specs.Table.{number, improved, relaxed, offered};
 ghost use Rattle.table.specs.Solver.{Prepared, Sound, netIn, unflagged, problemOf, Bounded};
 ghost use Rattle.relaxation.specs.Relaxing.{Hopped, Own};
 use crate::Hop;
+use links::link;
 use table::Reduced;
 use table::table::cell;
-use links::link;
 
 // Lines 8 to 10: link `i` of kept weight `weight` leads from cell `a` to cell `b`. Gives false only where the table is as
 // it was. From ∞, which is bound + 1, nothing less than bound + 1 is offered, so that needs no test of its own.

@@ -4,11 +4,11 @@ ghost use mathlib.Core.Bool.{true};
 ghost use Rattle.area.specs.Formed.{wellFormed};
 ghost use Rattle.rules.specs.Requests.{requestFits};
 ghost use Rattle.rules.specs.Calls.{booksIn, numberFits};
-use circuit_store::held::find;
 use area_words::layout;
 use area_words::range::in_range;
-use network::Request;
+use circuit_store::held::find;
 use links::link;
+use network::Request;
 
 // Whether `r` is a request among `n` nodes.
 pub fn request_fits(n: u32, r: Request) -> bool

@@ -7,8 +7,8 @@ ghost use lib.ListN.{length};
 ghost use Rattle.ebf.specs.Table.{column, round, rounds};
 ghost use Rattle.ebf.specs.Settled.{SettledColumn};
 ghost use Rattle.table.specs.Solver.{Sound, netIn, problemOf, Bounded};
-use table::Reduced;
 use relaxation::relax::offer;
+use table::Reduced;
 
 // Lines 23 and 24 at `k`. Gives false only where column k is settled, and it was told false.
 fn relax_links(

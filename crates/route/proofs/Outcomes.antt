@@ -10,7 +10,7 @@ use lib.ListN.{length, drop}
 use borrow.Author.Tests.{le-leb, lt-leb}
 use Rattle.network.specs.Net.{Net, Ends, sum}
 use Rattle.network.specs.Problem.{Problem}
-use Rattle.network.specs.Words.{netOf}
+use Rattle.network.specs.Words.{netOf, Links}
 use Rattle.network.specs.Cut.{follow}
 use Rattle.ebf.specs.Table.{cell, cells, number, filled, initialised, rounds, ebf}
 use Rattle.ebf.specs.Trace.{traced}
@@ -22,7 +22,6 @@ use Rattle.ebf.proofs.Memory.{any-memory-solves}
 use Rattle.path_words.specs.declared.Leg.{Leg}
 use Rattle.table.specs.declared.Reduced.{Reduced}
 use Rattle.route.specs.declared.Answer.the-variants.{NoSolution, Granted}
-use Rattle.network.specs.Words.{Links}
 use Rattle.table.specs.Solver.{Sound, netIn, problemOf, Bounded}
 use Rattle.path_words.specs.Forward.{forwarded}
 use Rattle.route.specs.Answers.{answerOf, pathAfter}

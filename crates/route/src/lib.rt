@@ -12,10 +12,10 @@ ghost use Rattle.route.specs.Ready.{Ready};
 mod attempt;
 mod problems;
 
-use distance::distance::distance;
 use crate::problems::both_problems;
-use network::Request;
+use distance::distance::distance;
 use links::link;
+use network::Request;
 
 // A granted path: the problem that granted it, 1 or 2, its delay, its cost and its number of links.
 pub struct Grant {

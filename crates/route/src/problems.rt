@@ -6,12 +6,12 @@ ghost use Rattle.ebf.specs.Search.{tried};
 ghost use Rattle.route.specs.Answers.{answerOf, pathAfter};
 ghost use Rattle.route.specs.Ready.{Ready};
 use crate::Answer;
-use table::Reduced;
 use crate::attempt::attempt;
-use table::weights::scaled_column;
-use network::Request;
 use links::link;
 use links::link::column;
+use network::Request;
+use table::Reduced;
+use table::weights::scaled_column;
 
 // The answer for request `r` at `x`.
 pub fn both_problems(

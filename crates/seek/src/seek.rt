@@ -3,10 +3,10 @@ ghost use mathlib.Core.Path.{_≡_};
 ghost use Rattle.rules.specs.Replies.{told, answerOf, pathAfter};
 ghost use Rattle.rules.specs.Calls.{booksIn, sought};
 ghost use Rattle.seek.specs.Ready.{Seekable};
-use rules::Answer;
 use area_words::layout;
-use network::Request;
 use links::link;
+use network::Request;
+use rules::Answer;
 use station::usable::usable;
 
 // The search's answer with document 01's numbers.

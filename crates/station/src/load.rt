@@ -1,6 +1,5 @@
 // Load: a link table into an area.
 ghost use mathlib.Core.Path.{_≡_};
-ghost use lib.ListN.{length};
 ghost use Rattle.station.specs.Load.{loadAnswer, areaLoaded};
 use crate::Loading;
 use area_fit::table::links_fit;

@@ -1,16 +1,13 @@
 -- The problem that prepared weights describe, and what the solver's functions rely on.
 -- Assumes nothing.
 use Prim.Native.Nat.{ℕ, _+_, _≤_, _<_}
-use mathlib.Core.Path.{_≡_}
-use mathlib.Core.Bool.{Bool, false}
 use mathlib.Core.List.{List, []}
 use lib.ListN.{length, getD}
 use Rattle.network.specs.Net.{Net}
 use Rattle.network.specs.Problem.{Problem}
 use Rattle.ebf.specs.Table.{cell, number}
-use Rattle.network.specs.Words.{field, netOf}
+use Rattle.network.specs.Words.{netOf, Links}
 use Rattle.table.specs.declared.Reduced.{Reduced}
-use Rattle.network.specs.Words.{Links}
 
 -- the kept weights and the scaled weights as columns with an entry for each link
 unfoldable pub problemOf : Reduced → List ℕ → List ℕ → Problem

@@ -9,12 +9,12 @@ ghost use Rattle.ebf.specs.Trace.{stepBack, traced};
 ghost use Rattle.network.specs.Words.{Links};
 ghost use Rattle.table.specs.Solver.{unflagged, scaledOnly};
 ghost use Rattle.trace.specs.OnTable.{OnTable};
-use table::Reduced;
-use table::table::cell;
-use table::table::cells;
 use ebf::Trail;
 use links::link;
 use links::node_set;
+use table::Reduced;
+use table::table::cell;
+use table::table::cells;
 
 // The link kept where the trail stands.
 fn kept_link(work: &[u32], p: Reduced, w: Trail) -> usize

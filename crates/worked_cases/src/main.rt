@@ -2,10 +2,10 @@
 // free units. A line is the case's name and then problem, delay, cost and links; or 0 and the refusal's number. Work
 // memory starts as rubbish and is handed from one call to the next; the path buffer starts as 31 times 99, so that a
 // word that is not 99 was written.
-use rules::Answer;
 use booking::calls;
 use network::Request;
 use route::Grant;
+use rules::Answer;
 use station::Loading;
 use station::Reading;
 use station::load::load;
