@@ -1,27 +1,16 @@
-// The bookings and the free units at the end.
+// The bookings and the free units at the end of a run, printed.
 ghost use Prim.Native.Nat.{_<_, _≤_};
-use crate::show;
 use area_words::layout;
+use libc::STDOUT_FILENO;
 use links::link;
-use station::reads;
 
-// Path word `k` of the circuit at word `at`, where its link count says that it has one. The last place of an area begins
-// at word 3425, and the loop over a path counts to 31.
-fn link_held(area: &[u32; 3459], at: usize, k: usize)
-    requires { ⌜ (at ≤ 3425) × (k < 31) ⌝ }
-{
-    if k < link::wide(area[at + 2]) {
-        show::field(area[at + 3 + k]);
-    }
-}
-
-// The links of the circuit at word `at`, which is a place of the area.
-fn links_held(area: &[u32; 3459], at: usize)
+// The circuit at word `at`: its number, its units and its path. The last place of an area begins at word 3425.
+fn circuit(area: &[u32; 3459], at: usize)
     requires { ⌜ at ≤ 3425 ⌝ }
 {
-    for k in 0..31 {
-        link_held(area, at, k);
-    }
+    io::write_all(STDOUT_FILENO, b"circuit");
+    answer_lines::write_fields(layout::part(area, at, 2));
+    answer_lines::write_path(layout::part(area, at + 3, 31), area[at + 2]);
 }
 
 // The circuit at place `j`, where one is held. The loop over the area counts its 64 places.
@@ -31,12 +20,7 @@ fn circuit_held(area: &[u32; 3459], j: usize)
     if link::wide(area[layout::HELD]) <= j {
         return;
     }
-    let at = layout::place(j);
-    show::text(b"circuit");
-    show::field(area[at]);
-    show::field(area[at + 1]);
-    links_held(area, at);
-    show::text(b"\n");
+    circuit(area, layout::place(j));
 }
 
 // The bookings, read from the area's words: no call tells a circuit's units and path.
@@ -46,15 +30,10 @@ pub(crate) fn circuits_held(area: &[u32; 3459]) {
     }
 }
 
-fn free(area: &[u32; 3459], link: u32) {
-    show::text(b"free");
-    show::field(link);
-    show::text(b" ");
-    show::show_reading(reads::free_units(area, link));
-}
-
+// Of each link of net A.
 pub(crate) fn every_free(area: &[u32; 3459]) {
-    for i in 0..4 {
-        free(area, i);
-    }
+    answer_lines::write_free(b"free 0", area, 0);
+    answer_lines::write_free(b"free 1", area, 1);
+    answer_lines::write_free(b"free 2", area, 2);
+    answer_lines::write_free(b"free 3", area, 3);
 }

@@ -1,7 +1,9 @@
 // The kinds of calls, and the words that a call of each kind is lent.
 ghost use mathlib.Core.Path.{_≡_};
+ghost use mathlib.Core.Bool.{_&&_, cond};
 ghost use Prim.Native.Nat.{_≤_};
-ghost use Rattle.history.specs.Calls.{isQuote, workLent, pathLent, rubbish, filler};
+ghost use lib.Dec.{eqb};
+ghost use Rattle.call_list.specs.Calls.{isQuote, rubbish, filler};
 
 // The last two lend too little: an admission 8 words of work memory, a quote a path buffer of 30.
 pub(crate) const QUOTE: u32 = 0;
@@ -21,18 +23,20 @@ pub(crate) fn is_quote(kind: u32) -> bool
     kind == QUOTE || kind == SHORT_PATH
 }
 
-// How many words of work memory a call of this kind is lent.
-pub(crate) fn work_lent(kind: u32) -> usize
-    ensures { λ r. ⌜ (r ≡ workLent kind) × (r ≤ 16384) ⌝ }
+// Whether a call of this kind is passed over: a quote is, in the run where quotes are struck.
+pub(crate) fn is_struck(struck: bool, kind: u32) -> bool
+    ensures { λ r. ⌜ r ≡ (struck && isQuote kind) ⌝ }
 {
-    if kind == SHORT_WORK { 8 } else { 16384 }
+    struck && is_quote(kind)
 }
 
-// How long a path buffer a call of this kind is lent.
-pub(crate) fn path_lent(kind: u32) -> usize
-    ensures { λ r. ⌜ (r ≡ pathLent kind) × (r ≤ 31) ⌝ }
+// How many words of work memory or path buffer a call of this kind is lent: enough, or few where its kind is the one that
+// is lent too little.
+pub(crate) fn lent(kind: u32, short: u32, few: usize, enough: usize) -> usize
+    requires { ⌜ few ≤ enough ⌝ }
+    ensures { λ r. ⌜ (r ≡ cond (eqb kind short) few enough) × (r ≤ enough) ⌝ }
 {
-    if kind == SHORT_PATH { 30 } else { 31 }
+    if kind == short { few } else { enough }
 }
 
 // Every word of work memory before a call, another at each call and in each run. In the first run a search that trusts

@@ -1,17 +1,19 @@
 // The list of calls, and each of them made and printed.
 ghost use mathlib.Core.Path.{_≡_};
-ghost use Prim.Native.Nat.{_<_};
+ghost use Prim.Native.Nat.{_<_, _≤_};
+ghost use mathlib.Core.List.{[]};
+ghost use lib.ListN.{length, getD};
 ghost use Rattle.rules.specs.Replies.{answerOf, pathAfter};
 ghost use Rattle.ledger.specs.History.{replyTo, areaAfter, areaAtEnd};
-ghost use Rattle.history.specs.Calls.{requestOf, callOf, lent, callAt, calls};
+ghost use Rattle.call_list.specs.Calls.{rows, requestOf, callOf, lent, callAt, calls};
 use crate::kinds;
 use crate::kinds::ADMISSION;
 use crate::kinds::QUOTE;
 use crate::kinds::RELEASE;
 use crate::kinds::SHORT_PATH;
 use crate::kinds::SHORT_WORK;
-use crate::show;
 use booking::calls;
+use libc::STDOUT_FILENO;
 use links::link;
 use network::Request;
 use rules::Answer;
@@ -46,13 +48,15 @@ const ROWS: [[u32; 8]; 25] = [
     [ADMISSION, 65536, 0, 3, 1, 9, 1, 1],
 ];
 
-fn show_name(kind: u32) {
+// The row's number and the name of its call.
+fn write_name(k: u32, kind: u32) {
+    io::print_decimal(STDOUT_FILENO, k as u64);
     if kinds::is_quote(kind) {
-        show::text(b" quote ");
+        io::write_all(STDOUT_FILENO, b" quote");
     } else if kind == RELEASE {
-        show::text(b" release ");
+        io::write_all(STDOUT_FILENO, b" release");
     } else {
-        show::text(b" admission ");
+        io::write_all(STDOUT_FILENO, b" admission");
     }
 }
 
@@ -77,51 +81,52 @@ fn answered(area: &mut [u32; 3459], work: &mut [u32], path: &mut [u32], row: [u3
 {
     let kind = row[0];
     let circuit = row[1];
+    let r = request(row);
     if kinds::is_quote(kind) {
-        return calls::quote(area, work, path, request(row));
+        return calls::quote(area, work, path, r);
     }
     if kind == RELEASE {
         return calls::release(area, circuit);
     }
-    calls::admit(area, work, path, circuit, request(row))
+    calls::admit(area, work, path, circuit, r)
 }
 
 // Makes the call of row `k` with this work memory and path buffer, and prints its line.
-fn call(
-    area: &mut [u32; 3459],
-    work: &mut [u32],
-    path: &mut [u32],
-    filler: u32,
-    k: u32,
-    row: [u32; 8],
-)
+fn call(area: &mut [u32; 3459], work: &mut [u32], path: &mut [u32], k: u32, row: [u32; 8])
+    requires { ⌜ length (now path) ≤ 31 ⌝ }
     ensures area { λ _. ⌜ now (area .exit) ≡ areaAfter (now (area .entry)) (callOf row (now (work .entry)) (now (path .entry))) ⌝ }
 {
-    show::number(k);
-    show_name(row[0]);
+    write_name(k, row[0]);
     let answer = answered(area, work, path, row);
-    show::show(answer, filler, path);
+    answer_lines::write_answer(answer, path);
 }
 
 // Fills work memory and path buffer, and lends as many of their words as the row's kind is lent.
 fn lend_and_call(struck: bool, area: &mut [u32; 3459], k: u32, row: [u32; 8])
     ensures { λ _. ⌜ now (area .exit) ≡ areaAfter (now (area .entry)) (lent struck k row) ⌝ }
 {
-    let filler = kinds::path_filler(struck);
     let mut work: [u32; 16384] = [kinds::rubbish(struck, k); 16384];
-    let mut path: [u32; 31] = [filler; 31];
-    let w = kinds::work_lent(row[0]);
-    let p = kinds::path_lent(row[0]);
-    call(area, &mut work[..w], &mut path[..p], filler, k, row);
+    let mut path: [u32; 31] = [kinds::path_filler(struck); 31];
+    let w = kinds::lent(row[0], SHORT_WORK, 8, 16384);
+    let p = kinds::lent(row[0], SHORT_PATH, 30, 31);
+    call(area, &mut work[..w], &mut path[..p], k, row);
 }
 
-// The call of row `k`, unless it is a quote and quotes are struck. The loop over the list counts its 25 rows.
+// The words of row `k`. The loop over the list counts its 25 rows.
+fn row_at(k: u32) -> [u32; 8]
+    requires { ⌜ k < 25 ⌝ }
+    ensures { λ r. ⌜ r ≡ getD rows k [] ⌝ }
+{
+    ROWS[link::wide(k)]
+}
+
+// The call of row `k`, unless it is a quote and quotes are struck.
 fn unless_struck(struck: bool, area: &mut [u32; 3459], k: u32)
     requires { ⌜ k < 25 ⌝ }
     ensures { λ _. ⌜ now (area .exit) ≡ areaAtEnd (now (area .entry)) (callAt struck k) ⌝ }
 {
-    let row = ROWS[link::wide(k)];
-    if struck && kinds::is_quote(row[0]) {
+    let row = row_at(k);
+    if kinds::is_struck(struck, row[0]) {
         return;
     }
     lend_and_call(struck, area, k, row);

@@ -15,58 +15,30 @@ ghost use Rattle.area.specs.Order.{Same};
 ghost use Rattle.station.specs.declared.Loading.the-variants.{Loaded};
 ghost use Rattle.station.specs.Load.{loadAnswer, areaLoaded};
 ghost use Rattle.ledger.specs.History.{areaAtEnd, bookings};
-ghost use Rattle.history.specs.Calls.{netA, calls};
+ghost use Rattle.cases.specs.Cases.{linksA};
+ghost use Rattle.call_list.specs.Calls.{calls};
 
 mod bookings;
 mod kinds;
 mod list;
-mod show;
 
-use station::Loading;
+use cases::NET_A;
+use libc::STDOUT_FILENO;
 use station::load::load;
-
-// Net A's link words.
-const NET_A: [u32; 20] = [
-    0,
-    1,
-    2,
-    5,
-    10,
-    1,
-    2,
-    2,
-    5,
-    10,
-    2,
-    3,
-    2,
-    5,
-    10,
-    0,
-    3,
-    9,
-    1,
-    10,
-];
 
 // Loads net A, which every area of this length takes.
 fn load_net(area: &mut [u32; 3459])
-    ensures accepted { λ _. ⌜ loadAnswer (now (area .entry)) 4 netA ≡ Loaded ⌝ }
-    ensures area { λ _. ⌜ now (area .exit) ≡ areaLoaded (now (area .entry)) 4 netA ⌝ }
+    ensures accepted { λ _. ⌜ loadAnswer (now (area .entry)) 4 linksA ≡ Loaded ⌝ }
+    ensures area { λ _. ⌜ now (area .exit) ≡ areaLoaded (now (area .entry)) 4 linksA ⌝ }
 {
     let links = NET_A;
-    let loading = load(4, &links, area);
-    match loading {
-        Loading::Refused(k) => show::refused(k),
-        Loading::Loaded => show::text(b"loaded"),
-    }
-    show::text(b"\n");
+    answer_lines::write_loading(load(4, &links, area));
 }
 
 // The list from a load on, and what is then held and free.
 fn run(struck: bool, area: &mut [u32; 3459])
-    ensures accepted { λ _. ⌜ loadAnswer (now (area .entry)) 4 netA ≡ Loaded ⌝ }
-    ensures area { λ _. ⌜ now (area .exit) ≡ areaAtEnd (areaLoaded (now (area .entry)) 4 netA) (calls struck) ⌝ }
+    ensures accepted { λ _. ⌜ loadAnswer (now (area .entry)) 4 linksA ≡ Loaded ⌝ }
+    ensures area { λ _. ⌜ now (area .exit) ≡ areaAtEnd (areaLoaded (now (area .entry)) 4 linksA) (calls struck) ⌝ }
 {
     load_net(area);
     list::every_call(struck, area);
@@ -77,12 +49,12 @@ fn run(struck: bool, area: &mut [u32; 3459])
 // Both runs, each on an area of its own. By the theorem of the crate `ledger` they leave the same bookings, whatever the
 // areas held.
 fn both_runs(first: &mut [u32; 3459], second: &mut [u32; 3459])
-    ensures first { λ _. ⌜ now (first .exit) ≡ areaAtEnd (areaLoaded (now (first .entry)) 4 netA) (calls false) ⌝ }
-    ensures second { λ _. ⌜ now (second .exit) ≡ areaAtEnd (areaLoaded (now (second .entry)) 4 netA) (calls true) ⌝ }
+    ensures first { λ _. ⌜ now (first .exit) ≡ areaAtEnd (areaLoaded (now (first .entry)) 4 linksA) (calls false) ⌝ }
+    ensures second { λ _. ⌜ now (second .exit) ≡ areaAtEnd (areaLoaded (now (second .entry)) 4 linksA) (calls true) ⌝ }
     ensures same { λ _. ⌜ Same (bookings (now (second .exit))) (bookings (now (first .exit))) ⌝ }
 {
     run(false, first);
-    show::text(b"quotes struck\n");
+    io::write_all(STDOUT_FILENO, b"quotes struck\n");
     run(true, second);
 }
 

@@ -1,99 +1,18 @@
 // Runs document 01's worked cases M1 to M11 through the calls themselves: load, quote, admission, release, listing and
-// free units. A line is the case's name and then problem, delay, cost and links; or 0 and the refusal's number. Work
-// memory starts as rubbish and is handed from one call to the next; the path buffer starts as 31 times 99, so that a
-// word that is not 99 was written.
+// free units. A line is what it is about and then problem, delay, cost and links; or 0 and the refusal's number. Work
+// memory starts as rubbish and is handed from one call to the next; the path buffer starts as 31 times 99, a number that
+// no link has, so that a link that was not written shows.
 use booking::calls;
+use cases::NET_A;
+use cases::NET_B;
+use libc::STDOUT_FILENO;
 use network::Request;
-use route::Grant;
-use rules::Answer;
-use station::Loading;
-use station::Reading;
 use station::load::load;
 use station::reads;
 
-// The link words of document 01's nets.
-const NET_A: [u32; 20] = [
-    0,
-    1,
-    2,
-    5,
-    10,
-    1,
-    2,
-    2,
-    5,
-    10,
-    2,
-    3,
-    2,
-    5,
-    10,
-    0,
-    3,
-    9,
-    1,
-    10,
-];
-
-const NET_B: [u32; 20] = [1, 2, 0, 1, 5, 2, 1, 0, 1, 5, 1, 3, 1, 1, 5, 0, 1, 1, 1, 5];
-
-fn text(words: &[u8]) {
-    io::write_all(1, words);
-}
-
-fn number(n: u32) {
-    io::print_decimal(1, n as u64);
-}
-
-fn refused(k: u32) {
-    text(b"0 ");
-    number(k);
-}
-
-// The words of the path buffer that were written.
-fn written(path: &[u32; 31]) {
-    for i in 0..31 {
-        if path[i] != 99 {
-            text(b" ");
-            number(path[i]);
-        }
-    }
-}
-
-fn granted(g: Grant, path: &[u32; 31]) {
-    number(g.problem);
-    text(b" ");
-    number(g.delay);
-    text(b" ");
-    number(g.cost);
-    written(path);
-}
-
-fn show(answer: Answer, path: &[u32; 31]) {
-    match answer {
-        Answer::Refused(k) => refused(k),
-        Answer::Granted(g) => granted(g, path),
-        Answer::Released => text(b"released"),
-    }
-    text(b"\n");
-}
-
-fn show_reading(r: Reading) {
-    match r {
-        Reading::Refused(k) => refused(k),
-        Reading::Value(v) => number(v),
-    }
-    text(b"\n");
-}
-
 // Loads a link table into the area.
 fn load_net(n: u32, links: &[u32], area: &mut [u32; 3459]) {
-    let loading = load(n, links, area);
-    match loading {
-        Loading::Refused(k) => refused(k),
-        Loading::Loaded => text(b"loaded"),
-    }
-    text(b"\n");
+    answer_lines::write_loading(load(n, links, area));
 }
 
 // A request from node 0.
@@ -108,6 +27,13 @@ fn request(target: u32, units: u32, delay: u32, cost: u32, coefficient: u32) -> 
     }
 }
 
+fn quote_request(name: &[u8], area: &[u32; 3459], work: &mut [u32; 16384], r: Request) {
+    let mut path: [u32; 31] = [99; 31];
+    io::write_all(STDOUT_FILENO, name);
+    let answer = calls::quote(area, work, &mut path, r);
+    answer_lines::write_answer(answer, &path);
+}
+
 // A quote from node 0 to node 3.
 fn quote(
     name: &[u8],
@@ -118,87 +44,108 @@ fn quote(
     cost: u32,
     coefficient: u32,
 ) {
-    let mut path: [u32; 31] = [99; 31];
-    let r = request(3, units, delay, cost, coefficient);
-    text(name);
-    let answer = calls::quote(area, work, &mut path, r);
-    show(answer, &path);
+    quote_request(
+        name,
+        area,
+        work,
+        request(3, units, delay, cost, coefficient),
+    );
 }
 
-// Net A as it was loaded.
-fn quotes(area: &[u32; 3459], work: &mut [u32; 16384]) {
-    quote(b"M1 ", area, work, 1, 8, 20, 5);
-    quote(b"M2 ", area, work, 1, 8, 20, 6);
-    quote(b"M3 ", area, work, 1, 8, 20, 8);
-    quote(b"M4 ", area, work, 1, 8, 15, 8);
-    quote(b"M5 ", area, work, 1, 8, 14, 8);
-    quote(b"M6 ", area, work, 1, 9, 20, 8);
-    quote(b"M7 ", area, work, 10, 8, 20, 8);
-    quote(b"M7 ", area, work, 11, 8, 20, 8);
+// One unit on net A as it was loaded, by other bounds and coefficients.
+fn bounds(area: &[u32; 3459], work: &mut [u32; 16384]) {
+    quote(b"M1", area, work, 1, 8, 20, 5);
+    quote(b"M2", area, work, 1, 8, 20, 6);
+    quote(b"M3", area, work, 1, 8, 20, 8);
+    quote(b"M4", area, work, 1, 8, 15, 8);
+    quote(b"M5", area, work, 1, 8, 14, 8);
+    quote(b"M6", area, work, 1, 9, 20, 8);
 }
 
-// The admission of M8 with circuit number 7, its quotes, and what is then held and free.
-fn admission(area: &mut [u32; 3459], work: &mut [u32; 16384]) {
+// All units of a link, and one more.
+fn units(area: &[u32; 3459], work: &mut [u32; 16384]) {
+    quote(b"M7", area, work, 10, 8, 20, 8);
+    quote(b"M7", area, work, 11, 8, 20, 8);
+}
+
+// The admission of M8 with circuit number 7.
+fn admit(area: &mut [u32; 3459], work: &mut [u32; 16384]) {
     let mut path: [u32; 31] = [99; 31];
-    let mut numbers: [u32; 1] = [0];
-    text(b"M8 ");
+    io::write_all(STDOUT_FILENO, b"M8");
     let answer = calls::admit(area, work, &mut path, 7, request(3, 4, 8, 20, 8));
-    show(answer, &path);
-    quote(b"M8 ", area, work, 6, 8, 20, 8);
-    quote(b"M8 ", area, work, 7, 8, 20, 8);
-    quote(b"M8 ", area, work, 7, 9, 20, 8);
-    text(b"held ");
-    show_reading(reads::list(area, &mut numbers));
-    text(b"number ");
-    number(numbers[0]);
-    text(b"\n");
-    text(b"free ");
-    show_reading(reads::free_units(area, 2));
-    text(b"free ");
-    show_reading(reads::free_units(area, 3));
+    answer_lines::write_answer(answer, &path);
 }
 
-// The release of circuit 7, once and again, and what is then held and free.
-fn release(area: &mut [u32; 3459]) {
-    let path: [u32; 31] = [99; 31];
+// How many circuits are held. Answers the first one's number, or 0 where none is.
+fn held(area: &[u32; 3459]) -> u32 {
     let mut numbers: [u32; 1] = [0];
-    text(b"release ");
-    let answer = calls::release(area, 7);
-    show(answer, &path);
-    text(b"release ");
-    let again = calls::release(area, 7);
-    show(again, &path);
-    text(b"held ");
-    show_reading(reads::list(area, &mut numbers));
-    text(b"free ");
-    show_reading(reads::free_units(area, 2));
-    text(b"free ");
-    show_reading(reads::free_units(area, 4));
+    io::write_all(STDOUT_FILENO, b"held");
+    answer_lines::write_reading(reads::list(area, &mut numbers));
+    numbers[0]
 }
 
-// M9, where source and target are one node.
-fn to_itself(area: &[u32; 3459], work: &mut [u32; 16384]) {
-    let mut path: [u32; 31] = [99; 31];
-    text(b"M9 ");
-    let answer = calls::quote(area, work, &mut path, request(0, 1, 8, 20, 8));
-    show(answer, &path);
+// M8's quotes beside circuit 7.
+fn beside(area: &[u32; 3459], work: &mut [u32; 16384]) {
+    quote(b"M8", area, work, 6, 8, 20, 8);
+    quote(b"M8", area, work, 7, 8, 20, 8);
+    quote(b"M8", area, work, 7, 9, 20, 8);
+}
+
+// Which circuit is held, and what is free beside it.
+fn one_held(area: &[u32; 3459]) {
+    let first = held(area);
+    io::write_all(STDOUT_FILENO, b"number");
+    answer_lines::write_line(&[first]);
+    answer_lines::write_free(b"free", area, 2);
+    answer_lines::write_free(b"free", area, 3);
+}
+
+fn release(area: &mut [u32; 3459]) {
+    io::write_all(STDOUT_FILENO, b"release");
+    answer_lines::write_answer(calls::release(area, 7), &[]);
+}
+
+// Circuit 7 released, once and again, and what is then held and free.
+fn releases(area: &mut [u32; 3459]) {
+    release(area);
+    release(area);
+    held(area);
+    answer_lines::write_free(b"free", area, 2);
+    answer_lines::write_free(b"free", area, 4);
+}
+
+// M1 to M9. In M9 source and target are one node.
+fn on_net_a(area: &mut [u32; 3459], work: &mut [u32; 16384]) {
+    let links = NET_A;
+    load_net(4, &links, area);
+    bounds(area, work);
+    units(area, work);
+    admit(area, work);
+    beside(area, work);
+    one_held(area);
+    releases(area);
+    quote_request(b"M9", area, work, request(0, 1, 8, 20, 8));
+}
+
+// M10.
+fn without_links(area: &mut [u32; 3459], work: &mut [u32; 16384]) {
+    load_net(4, &[], area);
+    quote(b"M10", area, work, 1, 8, 20, 8);
+}
+
+// M11, and a load with too few nodes.
+fn on_net_b(area: &mut [u32; 3459], work: &mut [u32; 16384]) {
+    let links = NET_B;
+    load_net(4, &links, area);
+    quote(b"M11", area, work, 1, 2, 8, 4);
+    load_net(1, &links, area);
 }
 
 fn main() {
-    let net_a = NET_A;
-    let net_b = NET_B;
-    let none: [u32; 0] = [];
     let mut area: [u32; 3459] = [88; 3459];
     let mut work: [u32; 16384] = [77; 16384];
-    quote(b"blank ", &area, &mut work, 1, 8, 20, 8);
-    load_net(4, &net_a, &mut area);
-    quotes(&area, &mut work);
-    admission(&mut area, &mut work);
-    release(&mut area);
-    to_itself(&area, &mut work);
-    load_net(4, &none, &mut area);
-    quote(b"M10 ", &area, &mut work, 1, 8, 20, 8);
-    load_net(4, &net_b, &mut area);
-    quote(b"M11 ", &area, &mut work, 1, 2, 8, 4);
-    load_net(1, &net_b, &mut area);
+    quote(b"blank", &area, &mut work, 1, 8, 20, 8);
+    on_net_a(&mut area, &mut work);
+    without_links(&mut area, &mut work);
+    on_net_b(&mut area, &mut work);
 }

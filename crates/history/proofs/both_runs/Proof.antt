@@ -1,18 +1,18 @@
 -- `history::both_runs` meets its contract, by the theorem of the crate `ledger`.
 -- Assumes nothing.
 use borrow.Author.Needs.{needs}
-use Rattle.history.proofs.Runs.{same-bookings}
+use Rattle.call_list.proofs.Runs.{same-bookings}
 use Rattle.history.proofs.both_runs.Statement.{statement}
 use Rattle.history.proofs.both_runs.Tie as tie
 
 run-requires : tie.Need-run-requires
 run-requires c κs = search needs
 
-slice-aggregate-text : tie.Need-slice-aggregate-text
-slice-aggregate-text c = search needs
+slice-aggregate-write-all : tie.Need-slice-aggregate-write-all
+slice-aggregate-write-all c = search needs
 
-text-requires : tie.Need-text-requires
-text-requires c κs = search needs
+write-all-requires : tie.Need-write-all-requires
+write-all-requires c κs = search needs
 
 run-requires-2 : tie.Need-run-requires-2
 run-requires-2 c κs = search needs
@@ -31,4 +31,5 @@ returns c =
 
 pub both-runs-spec : {M : Type 1} → statement M
 both-runs-spec =
-    tie.close (tie.spec run-requires slice-aggregate-text text-requires run-requires-2 returns)
+    tie.close
+    (tie.spec run-requires slice-aggregate-write-all write-all-requires run-requires-2 returns)

@@ -6,7 +6,7 @@ use mathlib.Core.Path.{ap, _∙_}
 use mathlib.Core.List.{List}
 use borrow.Author.Needs.{needs}
 use Rattle.ledger.specs.History.{areaAtEnd}
-use Rattle.history.specs.Calls.{calls}
+use Rattle.call_list.specs.Calls.{calls}
 use Rattle.history.proofs.run.Statement.{statement}
 use Rattle.history.proofs.run.Tie as tie
 

@@ -1,6 +1,6 @@
 -- `history::kinds::path_filler` meets its contract, by the run.
 -- Assumes nothing.
-use Rattle.history.specs.Calls.{filler}
+use Rattle.call_list.specs.Calls.{filler}
 use Rattle.history.proofs.kinds.path_filler.Statement.{statement}
 use Rattle.history.proofs.kinds.path_filler.Tie as tie
 

@@ -1,7 +1,7 @@
 -- `history::kinds::rubbish` meets its contract, by the run.
 -- Assumes nothing.
 use borrow.Author.Needs.{needs}
-use Rattle.history.specs.Calls.{rubbish}
+use Rattle.call_list.specs.Calls.{rubbish}
 use Rattle.history.proofs.kinds.rubbish.Statement.{statement}
 use Rattle.history.proofs.kinds.rubbish.Tie as tie
 

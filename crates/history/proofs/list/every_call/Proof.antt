@@ -5,8 +5,8 @@ use Prim.Native.Nat.{_-_, _≤_}
 use mathlib.Core.Path.{_≡_, refl}
 use borrow.Author.Needs.{needs}
 use Rattle.ledger.specs.History.{areaAtEnd}
-use Rattle.history.specs.Calls.{callsFrom, calls}
-use Rattle.history.proofs.CallCases.{fewer, none-left}
+use Rattle.call_list.specs.Calls.{callsFrom, calls}
+use Rattle.call_list.proofs.CallCases.{fewer, none-left}
 use Rattle.history.proofs.list.every_call.Statement.{statement}
 use Rattle.history.proofs.list.every_call.Tie as tie
 

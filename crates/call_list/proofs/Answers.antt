@@ -1,0 +1,61 @@
+-- The answers and the bookings that were calculated by hand are what the definitions give: computed from one area, and so
+-- from any other, since by the theorem of the crate `ledger` it makes no difference what an area held before it was loaded.
+-- Assumes nothing.
+use Prim.Native.Nat.{ℕ, _≤_}
+use mathlib.Core.Path.{_≡_, refl, ap, _∙_, subst}
+use mathlib.Core.Bool.{true, false}
+use mathlib.Core.List.{List}
+use native.Mathlib.Omega.{arith}
+use lib.ListN.{length, replicate, length-replicate}
+use Rattle.network.specs.Loops.{iter, first}
+use Rattle.network.specs.Scale.{scaled}
+use Rattle.network.specs.Cut.{noted, follow}
+use Rattle.network.specs.Reduce.{problemOne, problemTwo}
+use Rattle.ebf.specs.Table.{cell, cells, filled, initialised, improved, relaxed, offered, column, round, rounds, ebf}
+use Rattle.ebf.specs.Trace.{trailBack, stepBack, traced}
+use Rattle.ebf.specs.Solve.{pathIn, answerIn, solveIn, solve}
+use Rattle.ebf.specs.Distance.{spread, layer, distance}
+use Rattle.ebf.specs.Search.{tried, search}
+use Rattle.area.specs.Station.{tableIn, circuitOf}
+use Rattle.area.specs.Order.{Same, next}
+use Rattle.station.specs.declared.Loading.the-variants.{Loaded}
+use Rattle.station.specs.Load.{loadAnswer, areaLoaded}
+use Rattle.rules.specs.Calls.{quote, admission, booked, release, cleared}
+use Rattle.ledger.specs.History.{answers, given, bookings, remaining}
+use Rattle.ledger.proofs.Striking.{none-struck, all-remain}
+use Rattle.ledger.proofs.Demands.{third-demand}
+use Rattle.cases.specs.Cases.{linksA}
+use Rattle.call_list.specs.Calls.{rows, calls}
+use Rattle.call_list.specs.Answers.{expected, held}
+use Rattle.call_list.proofs.Runs.{load-accepts, struck-calls, endOf, runs-agree}
+
+-- ---- from an area of zeros
+abbrev blank : List ℕ
+blank = replicate 3459 0
+
+computed : (answers (areaLoaded blank 4 linksA) (calls false) ≡ expected) × (bookings (endOf false blank) ≡ held)
+unfolding calls rows given areaLoaded quote admission booked release cleared tableIn circuitOf search tried solve solveIn answerIn pathIn ebf rounds round column offered relaxed improved initialised filled cell cells traced stepBack trailBack noted follow distance layer spread problemOne problemTwo scaled iter first
+computed = (refl, refl)
+
+blank-accepted : loadAnswer blank 4 linksA ≡ Loaded
+blank-accepted = load-accepts blank (omega (arith, length-replicate {A = ℕ} 3459 0))
+
+-- ---- from any area that is long enough
+module _ (w : List ℕ) (long : 3459 ≤ length w) where
+  same : (answers (areaLoaded w 4 linksA) (calls false) ≡ remaining (none-struck (calls false)) (answers (areaLoaded blank 4 linksA) (calls false)))
+      × Same (bookings (endOf false w)) (bookings (endOf false blank))
+  same = third-demand 4 linksA blank blank-accepted (calls false) .struck w (load-accepts w long) (calls false) (none-struck (calls false))
+
+  -- the first run
+  pub answers-expected : answers (areaLoaded w 4 linksA) (calls false) ≡ expected
+  answers-expected = same .0 ∙ all-remain (areaLoaded blank 4 linksA) (calls false) ∙ computed .0
+
+  pub bookings-expected : Same (bookings (endOf false w)) held
+  bookings-expected = subst (Same (bookings (endOf false w))) (computed .1) (same .1)
+
+  -- the second run: of these answers those to the calls that remain, and the same bookings
+  pub remaining-expected : answers (areaLoaded w 4 linksA) (calls true) ≡ remaining (struck-calls 0 25) expected
+  remaining-expected = runs-agree w w long long .0 ∙ ap (remaining (struck-calls 0 25)) answers-expected
+
+  pub same-expected : Same (bookings (endOf true w)) held
+  same-expected = next (runs-agree w w long long .1) bookings-expected

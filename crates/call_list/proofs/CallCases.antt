@@ -1,0 +1,119 @@
+-- What a call of the list leaves, one law for each return of the functions of `history` that make it.
+-- Assumes nothing.
+use Prim.Native.Nat.{ℕ, suc, _+_, _-_, _≤_, _<_}
+use mathlib.Core.Path.{_≡_, refl, sym, ap, _∙_}
+use mathlib.Core.Bool.{Bool, true, false, _&&_}
+use mathlib.Core.List.{List, [], _∷_, _++_}
+use native.Mathlib.Omega.{arith}
+use borrow.Author.Tests.{eq-eqb, ne-eqb}
+use lib.ListN.{length, getD, take, replicate}
+use Rattle.network.specs.declared.Request.{Request}
+use Rattle.network.proofs.Tests.{by-bool}
+use Rattle.area.specs.Formed.{wellFormed}
+use Rattle.rules.specs.declared.Answer.{Answer}
+use Rattle.rules.specs.Replies.{answerOf, pathAfter}
+use Rattle.rules.specs.Calls.{booksIn, quote, admission, booked, release, cleared}
+use Rattle.ledger.specs.History.{Lending, replyTo, areaAfter, areaAtEnd}
+use Rattle.call_list.specs.Calls.{rows, kindOf, isQuote, requestOf, callOf, workLent, pathLent, rubbish, filler, workWords, pathWords, lent, callAt, callsFrom}
+
+-- a release leaves any path buffer as it was
+unwritten : (w : List ℕ) (c : ℕ) (l : List ℕ) → l ≡ pathAfter (release w c) l
+unfolding release pathAfter
+unwritten w c l =
+    by-bool (wellFormed w)
+    (λ e. by-bool (booksIn w .holds c) (λ f. rw (e, f)) (λ f. rw (e, f)))
+    (λ e. rw e)
+
+-- ---- a row's call, on an area w: the answer x, and the path buffer p and the area w' after
+module _ (w work path r : List ℕ) where
+  abbrev Made : Answer → List ℕ → List ℕ → Type 0
+  Made x p w' =
+      (x ≡ answerOf (replyTo w (callOf r work path)))
+      × ((p ≡ pathAfter (replyTo w (callOf r work path)) path) × (w' ≡ areaAfter w (callOf r work path)))
+
+  module _ (q : Request) (asked : q ≡ requestOf r) (x : Answer) (p : List ℕ) where
+    pub quoted : isQuote (kindOf r) ≡ true → x ≡ answerOf (quote w (length work) (length path) q)
+        → p ≡ pathAfter (quote w (length work) (length path) q) path
+        → Made x p w
+    unfolding callOf
+    quoted kind e f = rw kind (e ∙ rw asked, (f ∙ rw asked, refl))
+
+    pub admitted : isQuote (kindOf r) ≡ false → (kindOf r ≡ 2 → ⊥) → x ≡ answerOf (admission w (length work) (length path) (getD r 1 0) q)
+        → p ≡ pathAfter (admission w (length work) (length path) (getD r 1 0) q) path
+        → (w' : List ℕ) → w' ≡ booked w (getD r 1 0) (q .units) (admission w (length work) (length path) (getD r 1 0) q)
+        → Made x p w'
+    unfolding callOf
+    admitted kind other e f w' g = rw (kind, ne-eqb (kindOf r) 2 other) (e ∙ rw asked, (f ∙ rw asked, g ∙ rw asked))
+
+  pub released : isQuote (kindOf r) ≡ false → kindOf r ≡ 2 → (x : Answer) → x ≡ answerOf (release w (getD r 1 0)) → (w' : List ℕ)
+      → w' ≡ cleared w (getD r 1 0) (release w (getD r 1 0))
+      → Made x path w'
+  unfolding callOf
+  released kind two x e w' g = rw (kind, eq-eqb (kindOf r) 2 two) (e, (unwritten w (getD r 1 0) path, g))
+
+-- ---- with the words that it is lent
+module _ (struck : Bool) (k : ℕ) (r : List ℕ) where
+  pub work-as : (n word : ℕ) → n ≡ workLent (kindOf r) → word ≡ rubbish struck k
+      → take n (replicate 16384 word) ≡ workWords struck k (kindOf r)
+  unfolding workWords
+  work-as n word many is =
+      ap (λ (m : ℕ). take m (replicate 16384 word)) many ∙ ap (λ (a : ℕ). take (workLent (kindOf r)) (replicate 16384 a)) is
+
+  pub path-as : (n word : ℕ) → n ≡ pathLent (kindOf r) → word ≡ filler struck → take n (replicate 31 word) ≡ pathWords struck (kindOf r)
+  unfolding pathWords
+  path-as n word many is =
+      ap (λ (m : ℕ). take m (replicate 31 word)) many ∙ ap (λ (a : ℕ). take (pathLent (kindOf r)) (replicate 31 a)) is
+
+  pub lent-as : (w w' work path : List ℕ) → work ≡ workWords struck k (kindOf r) → path ≡ pathWords struck (kindOf r)
+      → w' ≡ areaAfter w (callOf r work path)
+      → w' ≡ areaAfter w (lent struck k r)
+  unfolding lent
+  lent-as w w' work path e f is =
+      is
+      ∙ ap (λ (l : List ℕ). areaAfter w (callOf r l path)) e
+      ∙ ap (λ (l : List ℕ). areaAfter w (callOf r (workWords struck k (kindOf r)) l)) f
+
+-- ---- row k of the list, whose words are r
+module _ (struck : Bool) (k : ℕ) (r : List ℕ) (is : r ≡ getD rows k []) where
+  -- a quote, and quotes are struck
+  pub skipped : (w : List ℕ) → (struck && isQuote (kindOf r)) ≡ true → w ≡ areaAtEnd w (callAt struck k)
+  unfolding callAt
+  skipped w q = rw (rw is at q)
+
+  -- or not
+  pub called : (w w' : List ℕ) → (struck && isQuote (kindOf r)) ≡ false → w' ≡ areaAfter w (lent struck k r)
+      → w' ≡ areaAtEnd w (callAt struck k)
+  unfolding callAt
+  called w w' q e = rw (rw is at q) (rw is at e)
+
+-- ---- the calls that are left
+-- one list of calls after another
+pub end-append : (w : List ℕ) (cs ds : List Lending) → areaAtEnd w (cs ++ ds) ≡ areaAtEnd (areaAtEnd w cs) ds
+end-append w [] ds = refl
+end-append w (c ∷ cs) ds = end-append (areaAfter w c) cs ds
+
+call-first : (struck : Bool) (k n : ℕ) (w w' : List ℕ) → w' ≡ areaAtEnd w (callAt struck k)
+    → areaAtEnd w' (callsFrom struck (suc k) n) ≡ areaAtEnd w (callsFrom struck k (suc n))
+unfolding callsFrom
+call-first struck k n w w' e =
+    ap (λ (v : List ℕ). areaAtEnd v (callsFrom struck (suc k) n)) e
+    ∙ sym (end-append w (callAt struck k) (callsFrom struck (suc k) n))
+
+-- after the call of row k one fewer is left
+pub fewer : (struck : Bool) (k : ℕ) (w w' v : List ℕ) → k < 25 → areaAtEnd w (callsFrom struck k (25 - k)) ≡ v
+    → w' ≡ areaAtEnd w (callAt struck k)
+    → areaAtEnd w' (callsFrom struck (k + 1) (25 - (k + 1))) ≡ v
+fewer struck k w w' v low is e =
+    let more : suc (25 - (k + 1)) ≡ 25 - k = omega arith in
+    let next : k + 1 ≡ suc k = omega arith in
+    ap (λ (j : ℕ). areaAtEnd w' (callsFrom struck j (25 - (k + 1)))) next
+    ∙ call-first struck k (25 - (k + 1)) w w' e
+    ∙ ap (λ (n : ℕ). areaAtEnd w (callsFrom struck k n)) more
+    ∙ is
+
+-- past the last row none is
+pub none-left : (struck : Bool) (k : ℕ) (w v : List ℕ) → 25 ≤ k → areaAtEnd w (callsFrom struck k (25 - k)) ≡ v → w ≡ v
+unfolding callsFrom
+none-left struck k w v high is =
+    let none : 0 ≡ 25 - k = omega arith in
+    ap (λ (n : ℕ). areaAtEnd w (callsFrom struck k n)) none ∙ is

@@ -1,0 +1,100 @@
+-- The two runs of the program `history`, as histories: the second list is the first with its quotes struck, and Load
+-- accepts net A.
+-- Assumes nothing.
+use Prim.Native.Nat.{ℕ, zero, suc, _≤_}
+use mathlib.Core.Path.{_≡_, refl, sym, ap, _∙_}
+use mathlib.Core.Bool.{Bool, true, false, cond}
+use mathlib.Core.List.{List, [], _∷_, _++_}
+use native.Mathlib.Omega.{arith}
+use lib.Dec.{eqb}
+use lib.ListN.{length, getD, take, replicate, length-take, length-replicate}
+use Rattle.network.proofs.Tests.{by-bool}
+use Rattle.area.specs.Formed.{linksFit}
+use Rattle.area.specs.Order.{Same}
+use Rattle.station.specs.declared.Loading.the-variants.{Loaded}
+use Rattle.station.specs.Load.{loadAnswer, areaLoaded}
+use Rattle.station.proofs.LoadCases.{all-pass}
+use Rattle.ledger.specs.Ledger.{quoting, admitting, releasing}
+use Rattle.ledger.specs.History.{Lending, measured, answers, areaAtEnd, bookings, Struck, end, strike, keep, remaining}
+use Rattle.ledger.proofs.Demands.{third-demand}
+use Rattle.cases.specs.Cases.{linksA}
+use Rattle.call_list.specs.Calls.{rows, kindOf, isQuote, requestOf, callOf, workLent, pathLent, rubbish, filler, workWords, pathWords, lent, callsFrom, calls}
+
+-- ---- a row's call
+-- measured, it goes by the lengths of what it is lent
+measured-cond : (a b : Bool) (x y z : Lending)
+    → measured (cond a x (cond b y z)) ≡ cond a (measured x) (cond b (measured y) (measured z))
+measured-cond true b x y z = refl
+measured-cond false true x y z = refl
+measured-cond false false x y z = refl
+
+measured-call : (r work path : List ℕ) → measured (callOf r work path) ≡ callOf r (length work) (length path)
+unfolding callOf
+measured-call r work path =
+    measured-cond (isQuote (kindOf r)) (eqb (kindOf r) 2) (quoting work path (requestOf r)) (releasing (getD r 1 0)) (admitting work path (getD r 1 0) (requestOf r))
+
+-- ---- the same row in the two runs
+-- it is lent as many words
+length-lent : (k n a b : ℕ) → length (take k (replicate n a)) ≡ length (take k (replicate n b))
+length-lent k n a b = simp (length-take, length-replicate)
+
+work-length : (k kind : ℕ) → length (workWords false k kind) ≡ length (workWords true k kind)
+unfolding workWords
+work-length k kind = length-lent (workLent kind) 16384 (rubbish false k) (rubbish true k)
+
+path-length : (kind : ℕ) → length (pathWords false kind) ≡ length (pathWords true kind)
+unfolding pathWords
+path-length kind = length-lent (pathLent kind) 31 (filler false) (filler true)
+
+measured-lent : (k : ℕ) (r : List ℕ) → measured (lent false k r) ≡ measured (lent true k r)
+unfolding lent
+measured-lent k r =
+    measured-call r _ _
+    ∙ ap (λ (l : ℕ). callOf r l (length (pathWords false (kindOf r)))) (work-length k (kindOf r))
+    ∙ ap (callOf r (length (workWords true k (kindOf r)))) (path-length (kindOf r))
+    ∙ sym (measured-call r _ _)
+
+-- so the second run's list is the first one's, with its quotes struck
+struck-quote : (k : ℕ) (r : List ℕ) (cs ds : List Lending) → isQuote (kindOf r) ≡ true → Struck cs ds → Struck (lent false k r ∷ cs) ds
+unfolding lent
+struck-quote k r cs ds e s = rw e (strike s)
+
+struck-call : (k : ℕ) (r : List ℕ) (cs ds : List Lending) → Struck cs ds
+    → Struck (lent false k r ∷ cs) (cond (isQuote (kindOf r)) [] (lent true k r ∷ []) ++ ds)
+struck-call k r cs ds s =
+    by-bool (isQuote (kindOf r)) (λ e. rw e (struck-quote k r cs ds e s)) (λ e. rw e (keep (measured-lent k r) s))
+
+pub struck-calls : (k n : ℕ) → Struck (callsFrom false k n) (callsFrom true k n)
+unfolding callsFrom
+struck-calls k zero = end
+struck-calls k (suc n) = struck-call k (getD rows k []) _ _ (struck-calls (suc k) n)
+
+-- ---- the load
+pub load-accepts : (w : List ℕ) → 3459 ≤ length w → loadAnswer w 4 linksA ≡ Loaded
+unfolding linksFit
+load-accepts w long = sym (all-pass w 4 linksA long refl refl (omega arith) refl .0)
+
+-- ---- the two runs
+abbrev pub endOf : Bool → List ℕ → List ℕ
+endOf struck w = areaAtEnd (areaLoaded w 4 linksA) (calls struck)
+
+module _ (w v : List ℕ) where
+  -- the answers of the second run are the remaining ones of the first, and the bookings at the end are the same
+  abbrev pub Agree : Type 0
+  Agree =
+      (answers (areaLoaded v 4 linksA) (calls true) ≡ remaining (struck-calls 0 25) (answers (areaLoaded w 4 linksA) (calls false)))
+      × Same (bookings (endOf true v)) (bookings (endOf false w))
+
+  pub accepted-agree : loadAnswer w 4 linksA ≡ Loaded → loadAnswer v 4 linksA ≡ Loaded → Agree
+  unfolding calls
+  accepted-agree accepted accepted' =
+      third-demand 4 linksA w accepted (calls false) .struck v accepted' (calls true) (struck-calls 0 25)
+
+  -- on any two areas that are long enough
+  pub runs-agree : 3459 ≤ length w → 3459 ≤ length v → Agree
+  runs-agree long long' = accepted-agree (load-accepts w long) (load-accepts v long')
+
+  -- of the areas w' and v' that the program leaves
+  pub same-bookings : (w' v' : List ℕ) → loadAnswer w 4 linksA ≡ Loaded → loadAnswer v 4 linksA ≡ Loaded → w' ≡ endOf false w → v' ≡ endOf true v
+      → Same (bookings v') (bookings w')
+  same-bookings w' v' accepted accepted' e f = rw (e, f) (accepted-agree accepted accepted' .1)

@@ -1,0 +1,114 @@
+-- The list of calls that the program `history` makes, as a history of the crate `ledger`: each row of its table is a call,
+-- with the words that it is lent in the first run or in the second, where the quotes are struck.
+-- Assumes nothing.
+use Prim.Native.Nat.{ℕ, zero, suc, _-_}
+use mathlib.Core.Bool.{Bool, cond, _&&_, _||_}
+use mathlib.Core.List.{List, [], _∷_, _++_}
+use lib.Dec.{eqb}
+use lib.ListN.{getD, take, replicate}
+use Rattle.network.specs.declared.Request.{Request}
+use Rattle.ledger.specs.Ledger.{Call, quoting, admitting, releasing}
+use Rattle.ledger.specs.History.{Lending}
+
+-- ---- the rows
+-- kind, circuit number, source, target, units, delay bound, cost bound and coefficient
+abbrev row : ℕ → ℕ → ℕ → ℕ → ℕ → ℕ → ℕ → ℕ → List ℕ
+row kind c s t b d x f = kind ∷ c ∷ s ∷ t ∷ b ∷ d ∷ x ∷ f ∷ []
+
+-- the rows of the code's table
+unfoldable pub rows : List (List ℕ)
+rows =
+    row 0 0 0 3 1 8 20 8
+    ∷ row 1 7 0 3 4 8 20 8
+    ∷ row 0 0 0 3 6 8 20 8
+    ∷ row 0 0 0 3 7 8 20 8
+    ∷ row 1 7 0 3 1 8 20 8
+    ∷ row 1 0 0 3 1 8 20 8
+    ∷ row 1 8 0 3 7 9 20 8
+    ∷ row 0 0 0 3 7 9 20 8
+    ∷ row 1 9 0 3 6 8 20 8
+    ∷ row 0 0 0 3 1 8 20 8
+    ∷ row 2 7 0 0 0 0 0 0
+    ∷ row 0 0 0 3 4 8 20 8
+    ∷ row 2 7 0 0 0 0 0 0
+    ∷ row 1 7 0 3 2 8 15 8
+    ∷ row 0 0 0 3 3 8 20 8
+    ∷ row 3 10 0 3 1 8 20 8
+    ∷ row 4 0 0 3 1 8 20 8
+    ∷ row 0 0 0 0 1 8 20 8
+    ∷ row 1 65535 1 3 2 4 10 8
+    ∷ row 0 0 0 3 1 8 20 8
+    ∷ row 0 0 1 2 1 8 20 8
+    ∷ row 2 8 0 0 0 0 0 0
+    ∷ row 0 0 0 3 10 9 1 1
+    ∷ row 1 8 0 3 10 9 1 1
+    ∷ row 1 65536 0 3 1 9 1 1
+    ∷ []
+
+-- ---- a row as a call
+abbrev pub kindOf : List ℕ → ℕ
+kindOf r = getD r 0 0
+
+abbrev pub isQuote : ℕ → Bool
+isQuote kind = eqb kind 0 || eqb kind 4
+
+abbrev pub requestOf : List ℕ → Request
+requestOf r =
+    record {
+      source = getD r 2 0;
+      target = getD r 3 0;
+      units = getD r 4 0;
+      «delay_bound» = getD r 5 0;
+      «cost_bound» = getD r 6 0;
+      coefficient = getD r 7 0;
+    }
+
+-- with work memory and path buffer, or their lengths
+unfoldable pub callOf : {Lent : Type 0} → List ℕ → Lent → Lent → Call Lent
+callOf r work path =
+    cond (isQuote (kindOf r)) (quoting work path (requestOf r))
+    (cond (eqb (kindOf r) 2) (releasing (getD r 1 0)) (admitting work path (getD r 1 0) (requestOf r)))
+
+-- ---- what it is lent
+-- how many words, by the kind
+unfoldable pub workLent : ℕ → ℕ
+workLent kind = cond (eqb kind 3) 8 16384
+
+unfoldable pub pathLent : ℕ → ℕ
+pathLent kind = cond (eqb kind 4) 30 31
+
+-- which words, by the run and the row's number
+unfoldable pub rubbish : Bool → ℕ → ℕ
+rubbish struck k = cond struck (4294967295 - k) k
+
+unfoldable pub filler : Bool → ℕ
+filler struck = cond struck 98 99
+
+unfoldable pub workWords : Bool → ℕ → ℕ → List ℕ
+unfolding workLent rubbish
+workWords struck k kind = take (workLent kind) (replicate 16384 (rubbish struck k))
+
+unfoldable pub pathWords : Bool → ℕ → List ℕ
+unfolding pathLent filler
+pathWords struck kind = take (pathLent kind) (replicate 31 (filler struck))
+
+-- the call of row k, with its words r
+unfoldable pub lent : Bool → ℕ → List ℕ → Lending
+unfolding callOf workWords pathWords
+lent struck k r = callOf r (workWords struck k (kindOf r)) (pathWords struck (kindOf r))
+
+-- ---- the list
+-- the call of row k, or none where it is a quote and quotes are struck
+unfoldable pub callAt : Bool → ℕ → List Lending
+unfolding lent
+callAt struck k = cond (struck && isQuote (kindOf (getD rows k []))) [] (lent struck k (getD rows k []) ∷ [])
+
+-- those of n rows from k on
+unfoldable pub callsFrom : Bool → ℕ → ℕ → List Lending
+unfolding callAt
+callsFrom struck k zero = []
+callsFrom struck k (suc n) = callAt struck k ++ callsFrom struck (suc k) n
+
+unfoldable pub calls : Bool → List Lending
+unfolding callsFrom
+calls struck = callsFrom struck 0 25
