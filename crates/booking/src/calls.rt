@@ -27,9 +27,9 @@ pub fn quote(area: &[u32], work: &mut [u32], path: &mut [u32], r: Request) -> An
     ensures means { λ _. ⌜ Quoted (now (area .entry)) (length (now (work .entry))) (length (now (path .entry))) r (quote (now (area .entry)) (length (now (work .entry))) (length (now (path .entry))) r) ⌝ }
 {
     let c = check(area);
-    let k = refusal(c.formed, area, work.len(), path.len(), r);
-    if k != 0 {
-        return Answer::Refused(k);
+    let number = refusal(c.formed, area, work.len(), path.len(), r);
+    if number != 0 {
+        return Answer::Refused(number);
     }
     let free = c.free;
     seek(area, &free, work, path, r)
