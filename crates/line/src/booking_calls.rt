@@ -9,25 +9,19 @@ use booking::calls;
 use network::Request;
 use rules::Answer;
 
-// 0 for a grant or a release, else document 01's number.
-fn code(a: Answer) -> u32
-    ensures { λ r. ⌜ r ≡ answerCode a ⌝ }
+// 0, and problem, delay, cost and links of a granted path in `answer`; or document 01's number, and `answer` stays as
+// it was.
+fn tell(a: Answer, answer: &mut [u32; 4]) -> u32
+    ensures code { λ k. ⌜ k ≡ answerCode a ⌝ }
+    ensures answer { λ _. ⌜ now (answer .exit) ≡ grantWords a (now (answer .entry)) ⌝ }
 {
     match a {
         Answer::Refused(k) => k,
-        Answer::Granted(_) => 0,
-        Answer::Released => 0,
-    }
-}
-
-// Problem, delay, cost and links of a granted path; else the words that stood in the answer array.
-fn words(a: Answer, before: [u32; 4]) -> [u32; 4]
-    ensures { λ r. ⌜ r ≡ grantWords a before ⌝ }
-{
-    match a {
-        Answer::Refused(_) => before,
-        Answer::Granted(g) => [g.problem, g.delay, g.cost, g.links],
-        Answer::Released => before,
+        Answer::Granted(g) => {
+            *answer = [g.problem, g.delay, g.cost, g.links];
+            0
+        }
+        Answer::Released => 0, // not of a quote or an admission
     }
 }
 
@@ -72,9 +66,8 @@ pub extern "C" fn line_quote(
     ensures means { λ _. ⌜ Quoted (now (area .entry)) (length (now (work .entry))) (length (now (path .entry))) (asked s t units «delay_bound» «cost_bound» coefficient) (quote (now (area .entry)) (length (now (work .entry))) (length (now (path .entry))) (asked s t units «delay_bound» «cost_bound» coefficient)) ⌝ }
 {
     let r = request(s, t, units, delay_bound, cost_bound, coefficient);
-    let a = calls::quote(area, work, path, r);
-    *answer = words(a, *answer);
-    code(a)
+    let quoted = calls::quote(area, work, path, r);
+    tell(quoted, answer)
 }
 
 // 5, 6, 7, 8, 11, 12, 9 and 10; else as a quote, and the circuit is added to the area.
@@ -99,9 +92,8 @@ pub extern "C" fn line_admit(
     ensures means { λ _. ⌜ Admitted (now (area .entry)) (length (now (work .entry))) (length (now (path .entry))) circuit (asked s t units «delay_bound» «cost_bound» coefficient) (admission (now (area .entry)) (length (now (work .entry))) (length (now (path .entry))) circuit (asked s t units «delay_bound» «cost_bound» coefficient)) ⌝ }
 {
     let r = request(s, t, units, delay_bound, cost_bound, coefficient);
-    let a = calls::admit(area, work, path, circuit, r);
-    *answer = words(a, *answer);
-    code(a)
+    let admitted = calls::admit(area, work, path, circuit, r);
+    tell(admitted, answer)
 }
 
 // 5 and 13; else 0, and the circuit with this number goes.
@@ -111,6 +103,9 @@ pub extern "C" fn line_release(area: &mut [u32], circuit: u32) -> u32
     ensures area { λ _. ⌜ now (area .exit) ≡ cleared (now (area .entry)) circuit (release (now (area .entry)) circuit) ⌝ }
     ensures means { λ _. ⌜ Cleared (now (area .entry)) circuit (release (now (area .entry)) circuit) ⌝ }
 {
-    let a = calls::release(area, circuit);
-    code(a)
+    match calls::release(area, circuit) {
+        Answer::Refused(number) => number,
+        Answer::Granted(_) => 0, // not of a release
+        Answer::Released => 0, // the circuit went
+    }
 }

@@ -9,33 +9,17 @@ use station::Reading;
 use station::load::load;
 use station::reads;
 
-// 0 where it was loaded, else document 01's number.
-fn load_code(a: Loading) -> u32
-    ensures { λ r. ⌜ r ≡ loadCode a ⌝ }
-{
-    match a {
-        Loading::Refused(k) => k,
-        Loading::Loaded => 0,
-    }
-}
-
-// 0 where there is a value, else document 01's number.
-fn code(a: Reading) -> u32
-    ensures { λ r. ⌜ r ≡ readingCode a ⌝ }
+// 0, and the value in `answer`; or document 01's number, and `answer` stays as it was.
+fn tell(a: Reading, answer: &mut [u32; 1]) -> u32
+    ensures code { λ k. ⌜ k ≡ readingCode a ⌝ }
+    ensures answer { λ _. ⌜ now (answer .exit) ≡ valueWord a (now (answer .entry)) ⌝ }
 {
     match a {
         Reading::Refused(k) => k,
-        Reading::Value(_) => 0,
-    }
-}
-
-// The value; else the word that stood in the answer array.
-fn word(a: Reading, before: [u32; 1]) -> [u32; 1]
-    ensures { λ r. ⌜ r ≡ valueWord a before ⌝ }
-{
-    match a {
-        Reading::Refused(_) => before,
-        Reading::Value(v) => [v],
+        Reading::Value(v) => {
+            *answer = [v];
+            0
+        }
     }
 }
 
@@ -45,8 +29,10 @@ pub extern "C" fn line_load(n: u32, links: &[u32], area: &mut [u32]) -> u32
     ensures code { λ k. ⌜ k ≡ loadCode (loadAnswer (now (area .entry)) n (now (links .entry))) ⌝ }
     ensures area { λ _. ⌜ now (area .exit) ≡ areaLoaded (now (area .entry)) n (now (links .entry)) ⌝ }
 {
-    let a = load(n, links, area);
-    load_code(a)
+    match load(n, links, area) {
+        Loading::Refused(k) => k,
+        Loading::Loaded => 0,
+    }
 }
 
 // 5 and 14; else 0, the held circuits' numbers in `numbers`, and how many they are in `answer`.
@@ -57,9 +43,8 @@ pub extern "C" fn line_list(area: &[u32], numbers: &mut [u32], answer: &mut [u32
     ensures numbers { λ _. ⌜ now (numbers .exit) ≡ listed (now (area .entry)) (now (numbers .entry)) ⌝ }
     ensures means { λ _. ⌜ Lists (now (area .entry)) ⌝ }
 {
-    let a = reads::list(area, numbers);
-    *answer = word(a, *answer);
-    code(a)
+    let count = reads::list(area, numbers);
+    tell(count, answer)
 }
 
 // 5 and 15; else 0, and the link's free units in `answer`.
@@ -68,7 +53,6 @@ pub extern "C" fn line_free_units(area: &[u32], link: u32, answer: &mut [u32; 1]
     ensures code { λ k. ⌜ k ≡ readingCode (freeAnswer (now (area .entry)) link) ⌝ }
     ensures answer { λ _. ⌜ now (answer .exit) ≡ valueWord (freeAnswer (now (area .entry)) link) (now (answer .entry)) ⌝ }
 {
-    let a = reads::free_units(area, link);
-    *answer = word(a, *answer);
-    code(a)
+    let units = reads::free_units(area, link);
+    tell(units, answer)
 }

@@ -28,11 +28,8 @@ request-requires c κs = search needs
 quote-requires : tie.Need-quote-requires
 quote-requires c κs = search needs
 
-words-requires : tie.Need-words-requires
-words-requires c κs = search needs
-
-code-requires : tie.Need-code-requires
-code-requires c κs = search needs
+tell-requires : tie.Need-tell-requires
+tell-requires c κs = search needs
 
 same-length : tie.Need-same-length
 same-length c = search needs
@@ -42,22 +39,14 @@ same-length-2 c = search needs
 
 returns : tie.Need-returns
 returns c =
-    let called = c .before .before .before .before .before .before .before in
+    let called = c .before .before .before .before .before .before in
     let asking = called .before .before .before in
     let a = asking .before .before .before .before .args in
     let said = called .quote .ensures in
-    let coded = c .code .ensures ∙ ap answerCode (said .0) in
-    let written = c .before .words .ensures ∙ ap (λ (x : Answer). grantWords x (a .answer .now)) (said .0) in
+    let coded = c .tell .ensures .0 ∙ ap answerCode (said .0) in
+    let written = c .tell .ensures .1 ∙ ap (λ (x : Answer). grantWords x (a .answer .now)) (said .0) in
     subst (Ensured (a .area .now) (length (a .work .now)) (a .path .now) (a .answer .now) _ _ _) (asking .request .ensures) (coded, (written, said .1))
 
 pub line-quote-spec : {M : Type 1} → statement M
 line-quote-spec =
-    tie.close
-    (tie.spec
-    request-requires
-    quote-requires
-    words-requires
-    code-requires
-    same-length
-    same-length-2
-    returns)
+    tie.close (tie.spec request-requires quote-requires tell-requires same-length same-length-2 returns)

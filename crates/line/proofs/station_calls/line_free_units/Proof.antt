@@ -11,20 +11,17 @@ use Rattle.line.proofs.station_calls.line_free_units.Tie as tie
 free-units-requires : tie.Need-free-units-requires
 free-units-requires c κs = search needs
 
-word-requires : tie.Need-word-requires
-word-requires c κs = search needs
-
-code-requires : tie.Need-code-requires
-code-requires c κs = search needs
+tell-requires : tie.Need-tell-requires
+tell-requires c κs = search needs
 
 returns : tie.Need-returns
 returns c =
-    let called = c .before .before .before in
+    let called = c .before .before in
     let answer = called .before .before .args .answer .now in
     let said = called .free-units .ensures in
-    let coded = c .code .ensures ∙ ap readingCode said in
-    let written = c .before .word .ensures ∙ ap (λ (a : Reading). valueWord a answer) said in
+    let coded = c .tell .ensures .0 ∙ ap readingCode said in
+    let written = c .tell .ensures .1 ∙ ap (λ (a : Reading). valueWord a answer) said in
     (coded, written)
 
 pub line-free-units-spec : {M : Type 1} → statement M
-line-free-units-spec = tie.close (tie.spec free-units-requires word-requires code-requires returns)
+line-free-units-spec = tie.close (tie.spec free-units-requires tell-requires returns)

@@ -11,23 +11,20 @@ use Rattle.line.proofs.station_calls.line_list.Tie as tie
 list-requires : tie.Need-list-requires
 list-requires c κs = search needs
 
-word-requires : tie.Need-word-requires
-word-requires c κs = search needs
-
-code-requires : tie.Need-code-requires
-code-requires c κs = search needs
+tell-requires : tie.Need-tell-requires
+tell-requires c κs = search needs
 
 same-length : tie.Need-same-length
 same-length c = search needs
 
 returns : tie.Need-returns
 returns c =
-    let called = c .before .before .before .before .before in
+    let called = c .before .before .before .before in
     let answer = called .before .before .before .before .args .answer .now in
     let said = called .list .ensures in
-    let coded = c .code .ensures ∙ ap readingCode (said .0) in
-    let written = c .before .word .ensures ∙ ap (λ (a : Reading). valueWord a answer) (said .0) in
+    let coded = c .tell .ensures .0 ∙ ap readingCode (said .0) in
+    let written = c .tell .ensures .1 ∙ ap (λ (a : Reading). valueWord a answer) (said .0) in
     (coded, (written, said .1))
 
 pub line-list-spec : {M : Type 1} → statement M
-line-list-spec = tie.close (tie.spec list-requires word-requires code-requires same-length returns)
+line-list-spec = tie.close (tie.spec list-requires tell-requires same-length returns)
