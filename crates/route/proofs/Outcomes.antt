@@ -2,15 +2,15 @@
 -- gives the followed links with their own sums.
 -- Assumes nothing.
 use mathlib.Core.Path.{_≡_, sym, ap, _∙_}
-use mathlib.Core.List.{List, _++_}
+use mathlib.Core.List.{List}
 use mathlib.Core.Option.{none, some}
 use Prim.Native.Nat.{ℕ, _+_, _-_, _≤_, _<_}
 use native.Mathlib.Omega.{arith}
-use lib.ListN.{length, drop}
+use lib.ListN.{length}
 use borrow.Author.Tests.{le-leb, lt-leb}
-use Rattle.network.specs.Net.{Net, Ends, sum}
+use Rattle.network.specs.Net.{Net, Ends}
 use Rattle.network.specs.Problem.{Problem}
-use Rattle.network.specs.Words.{netOf, Links}
+use Rattle.network.specs.Words.{netOf}
 use Rattle.network.specs.Cut.{follow}
 use Rattle.ebf.specs.Table.{cell, cells, number, filled, initialised, rounds, ebf}
 use Rattle.ebf.specs.Trace.{traced}
@@ -21,17 +21,31 @@ use Rattle.ebf.proofs.Sound.{initialised-good}
 use Rattle.ebf.proofs.Memory.{any-memory-solves}
 use Rattle.path_words.specs.declared.Leg.{Leg}
 use Rattle.table.specs.declared.Reduced.{Reduced}
-use Rattle.route.specs.declared.Answer.the-variants.{NoSolution, Granted}
-use Rattle.table.specs.Solver.{Sound, netIn, problemOf, Bounded}
+use Rattle.route.specs.declared.Answer.{Answer}
+use Rattle.route.specs.declared.Answer.the-variants.{NoSolution}
+use Rattle.network.specs.Words.{Links}
+use Rattle.table.specs.Solver.{Sound, netIn, problemOf, unflagged, scaledOnly, Bounded}
 use Rattle.path_words.specs.Forward.{forwarded}
-use Rattle.route.specs.Answers.{answerOf, pathAfter}
+use Rattle.route.specs.Answers.{answerOf, grantOf, pathAfter, passed}
 use Rattle.table.proofs.Rows.{cells-below}
+use Rattle.trace.proofs.Unflagged.{traced-unflagged}
+use Rattle.path_words.proofs.Unflagged.{forwarded-unflagged}
 use Rattle.path_words.proofs.Forward.{follow-short, forward-links, forward-delay, forward-cost, forward-path}
 
 -- the ends that the table's words give are nodes
 pub net-ends : (n m : ℕ) (links usable : List ℕ) → Links n m links → Ends (netOf n m links usable)
 unfolding netOf
 net-ends n m links usable h = record { tails = h .words .from; heads = h .words .to }
+
+-- the notes are the trail's, so the pass is the one along the trail
+pub passes : (p : Reduced) (links scaled table : List ℕ) (s t which : ℕ) (path : List ℕ) {next : List ℕ} {w : Leg} {path₁ : List ℕ}
+    → next ≡ traced (unflagged p links) (scaledOnly p scaled) table s t .1
+    → (w, path₁) ≡ forwarded (unflagged p links) next s t path
+    → (grantOf which w ≡ grantOf which (passed p links scaled table s t path .0)) × (path₁ ≡ passed p links scaled table s t path .1)
+unfolding passed
+passes p links scaled table s t which path notes pass =
+    let is = pass ∙ ap (λ (n : List ℕ). forwarded (unflagged p links) n s t path) notes in
+    (ap (λ (z : Leg × List ℕ). grantOf which (z .0)) is, ap (λ (z : Leg × List ℕ). z .1) is)
 
 module _ (p : Reduced) (links usable kept scaled : List ℕ) (s t : ℕ) (sound : Sound p links usable kept)
     (s-low : s < p .nodes) (t-low : t < p .nodes) (l : List ℕ) (memory : 16384 ≤ length l) where
@@ -67,48 +81,53 @@ module _ (p : Reduced) (links usable kept scaled : List ℕ) (s t : ℕ) (sound 
     solve-is =
         sym (any-memory-solves g q (net-ends _ _ _ usable (sound .prepared .table)) s t s-low t-low l room) ∙ ap (λ (z : List ℕ). answerIn g q z s t) (sym table)
 
-    unsolved : p .bound < number l₂ (cell (p .x) t (p .x)) → solve g q s t ≡ none
-    unfolding answerIn problemOf
-    unsolved far = solve-is ∙ simp (lt-leb _ _ far)
+    module _ {at : ℕ} (place : at ≡ cell (p .x) t (p .x)) where
+      unsolved : p .bound < number l₂ at → solve g q s t ≡ none
+      unfolding answerIn problemOf
+      unsolved far = solve-is ∙ simp (lt-leb _ _ (rw place at far))
 
-    solved : number l₂ (cell (p .x) t (p .x)) ≤ p .bound → solve g q s t ≡ some (pathIn g q l₂ s t)
-    unfolding answerIn problemOf
-    solved near = solve-is ∙ simp (le-leb _ _ near)
+      solved : number l₂ at ≤ p .bound → solve g q s t ≡ some (pathIn g q l₂ s t)
+      unfolding answerIn problemOf
+      solved near = solve-is ∙ simp (le-leb _ _ (rw place at near))
 
-    -- no solution: no word of the path buffer changes
-    pub answers-none : (which : ℕ) → p .bound < number l₂ (cell (p .x) t (p .x))
-        → NoSolution ≡ answerOf g (outcomeOf which (solve g q s t))
-    unfolding answerOf
-    answers-none which far = simp (unsolved far)
+      -- no solution: no word of the path buffer changes
+      pub answers-none : (which : ℕ) (path : List ℕ) → p .bound < number l₂ at
+          → (NoSolution ≡ answerOf g (outcomeOf which (solve g q s t))) × (path ≡ pathAfter (outcomeOf which (solve g q s t)) path)
+      unfolding answerOf pathAfter
+      answers-none which path far = (simp (unsolved far), simp (unsolved far))
 
-    pub leaves-path : (which : ℕ) (path : List ℕ) → p .bound < number l₂ (cell (p .x) t (p .x))
-        → path ≡ pathAfter (outcomeOf which (solve g q s t)) path
-    unfolding pathAfter
-    leaves-path which path far = simp (unsolved far)
+      -- a solution: the pass along the trail's notes, which asks neither for flags nor for kept weights
+      module _ (path : List ℕ) (near : number l₂ at ≤ p .bound) where
+        abbrev notes : List ℕ
+        notes = traced g q l₂ s t .1
 
-    -- a solution: the pass along the trail's notes
-    module _ (near : number l₂ (cell (p .x) t (p .x)) ≤ p .bound) {next : List ℕ} (notes : next ≡ traced g q l₂ s t .1)
-        (path : List ℕ) {w : Leg} {path' : List ℕ} (pass : (w, path') ≡ forwarded g next s t path) where
-      abbrev links-found : List ℕ
-      links-found = follow g next t (g .nodes - 1) s
+        abbrev links-found : List ℕ
+        links-found = follow g notes t (g .nodes - 1) s
 
-      path-is : solve g q s t ≡ some links-found
-      unfolding pathIn
-      path-is = solved near ∙ ap (λ (n : List ℕ). some (follow g n t (g .nodes - 1) s)) (sym notes)
+        pass : passed p links scaled l₂ s t path ≡ forwarded g notes s t path
+        unfolding passed
+        pass = cc (traced-unflagged p links usable kept scaled l₂ s t, forwarded-unflagged (p .nodes) (p .links) links usable notes s t path)
 
-      pub answers-path : (which : ℕ)
-          → Granted (record { problem = which; delay = w .delay; cost = w .cost; links = w .links })
-          ≡ answerOf g (outcomeOf which (solve g q s t))
-      unfolding answerOf
-      answers-path which =
-          let a : w .delay ≡ sum (g .delay) links-found = ap (λ (z : Leg × List ℕ). z .0 .delay) pass ∙ forward-delay g next s t path in
-          let b : w .cost ≡ sum (g .cost) links-found = ap (λ (z : Leg × List ℕ). z .0 .cost) pass ∙ forward-cost g next s t path in
-          let c : w .links ≡ length links-found = ap (λ (z : Leg × List ℕ). z .0 .links) pass ∙ forward-links g next s t path in
-          simp (path-is, a, b, c)
+        path-is : solve g q s t ≡ some links-found
+        unfolding pathIn
+        path-is = solved near
 
-      pub writes-path : (which : ℕ) → 31 ≤ length path → path' ≡ pathAfter (outcomeOf which (solve g q s t)) path
-      unfolding pathAfter netOf
-      writes-path which buffer =
-          let fits : length links-found ≤ length path = omega (arith, follow-short g next t (g .nodes - 1) s, sound .prepared .table .nodes-most) in
-          let a : path' ≡ links-found ++ drop (length links-found) path = ap (λ (z : Leg × List ℕ). z .1) pass ∙ forward-path g next s t path fits in
-          simp path-is a
+        answer-is : (which : ℕ) → grantOf which (passed p links scaled l₂ s t path .0) ≡ answerOf g (outcomeOf which (solve g q s t))
+        unfolding answerOf
+        answer-is which =
+            let a = forward-delay g notes s t path in
+            let b = forward-cost g notes s t path in
+            let c = forward-links g notes s t path in
+            simp (path-is, pass, a, b, c)
+
+        words-are : (which : ℕ) → 31 ≤ length path → passed p links scaled l₂ s t path .1 ≡ pathAfter (outcomeOf which (solve g q s t)) path
+        unfolding pathAfter netOf
+        words-are which buffer =
+            let fits : length links-found ≤ length path = omega (arith, follow-short g notes t (g .nodes - 1) s, sound .prepared .table .nodes-most) in
+            simp (path-is, pass) (forward-path g notes s t path fits)
+
+        pub answers-path : (which : ℕ) → 31 ≤ length path → {a : Answer} {path₁ : List ℕ}
+            → a ≡ grantOf which (passed p links scaled l₂ s t path .0)
+            → path₁ ≡ passed p links scaled l₂ s t path .1
+            → (a ≡ answerOf g (outcomeOf which (solve g q s t))) × (path₁ ≡ pathAfter (outcomeOf which (solve g q s t)) path)
+        answers-path which buffer told left = (told ∙ answer-is which, left ∙ words-are which buffer)

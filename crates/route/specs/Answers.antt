@@ -5,6 +5,11 @@ use mathlib.Core.List.{List, _++_}
 use lib.ListN.{length, drop}
 use Rattle.network.specs.Net.{Net, sum}
 use Rattle.network.specs.Reduce.{Outcome, no-path, no-solution, granted}
+use Rattle.ebf.specs.Trace.{traced}
+use Rattle.table.specs.declared.Reduced.{Reduced}
+use Rattle.table.specs.Solver.{unflagged, scaledOnly}
+use Rattle.path_words.specs.declared.Leg.{Leg}
+use Rattle.path_words.specs.Forward.{forwarded}
 use Rattle.route.specs.declared.Answer.{Answer}
 use Rattle.route.specs.declared.Answer.the-variants.{NoPath, NoSolution, Granted}
 
@@ -15,8 +20,17 @@ answerOf g no-solution = NoSolution
 answerOf g (granted which p) =
     Granted (record { problem = which; delay = sum (g .delay) p; cost = sum (g .cost) p; links = length p })
 
+-- a grant of the problem `which`, from the pass along its path
+abbrev pub grantOf : ℕ → Leg → Answer
+grantOf which w = Granted (record { problem = which; delay = w .delay; cost = w .cost; links = w .links })
+
 -- a granted path stands in the first words, the others keep theirs; else no word changes
 unfoldable pub pathAfter : Outcome → List ℕ → List ℕ
 pathAfter no-path l = l
 pathAfter no-solution l = l
 pathAfter (granted which p) l = p ++ drop (length p) l
+
+-- the pass from s to t along the trail of a finished table: the path's totals, and the path buffer after it
+unfoldable pub passed : Reduced → List ℕ → List ℕ → List ℕ → ℕ → ℕ → List ℕ → Leg × List ℕ
+passed p links scaled table s t path =
+    forwarded (unflagged p links) (traced (unflagged p links) (scaledOnly p scaled) table s t .1) s t path

@@ -2,13 +2,15 @@
 ghost use mathlib.Core.Path.{_≡_};
 ghost use Prim.Native.Nat.{_≤_, _<_};
 ghost use lib.ListN.{length};
+ghost use Rattle.network.specs.Words.{Links};
 ghost use Rattle.ebf.specs.Solve.{solve};
 ghost use Rattle.ebf.specs.Search.{outcomeOf};
 ghost use Rattle.table.specs.Solver.{Sound, netIn, problemOf};
-ghost use Rattle.path_words.specs.Forward.{Columns};
-ghost use Rattle.route.specs.Answers.{answerOf, pathAfter};
+ghost use Rattle.route.specs.Answers.{answerOf, grantOf, pathAfter, passed};
 use crate::Answer;
 use crate::Grant;
+use links::link;
+use links::link::column;
 use path_words::path::forward;
 use rounds::rounds::rounds;
 use table::Reduced;
@@ -16,14 +18,41 @@ use table::table::cell;
 use table::table::initialise;
 use trace::trace::trace;
 
+// The path that a finished table holds for t, granted with its own totals. Only they need the links' delays and costs
+// side by side, whichever of the two the problem scales.
+fn found(
+    work: &[u32],
+    path: &mut [u32],
+    links: &[u32],
+    scaled: &[u32; 256],
+    p: Reduced,
+    s: usize,
+    t: usize,
+    which: u32,
+) -> Answer
+    requires { ⌜ Links (p .nodes) (p .links) (now links) ⌝ }
+    requires { ⌜ (p .x ≤ 248) × (16384 ≤ length (now work)) × (31 ≤ length (now path)) × (s < p .nodes) × (t < p .nodes) ⌝ }
+    ensures answer { λ a. ⌜ a ≡ grantOf which (passed p (now (links .entry)) (now (scaled .entry)) (now (work .entry)) s t (now (path .entry)) .0) ⌝ }
+    ensures path { λ _. ⌜ now (path .exit) ≡ passed p (now (links .entry)) (now (scaled .entry)) (now (work .entry)) s t (now (path .entry)) .1 ⌝ }
+{
+    let next = trace(work, links, scaled, p, s, t);
+    let delay = column(links, p.links, link::DELAY);
+    let cost = column(links, p.links, link::COST);
+    let w = forward(p.nodes, p.links, links, &delay, &cost, &next, path, s, t);
+    Answer::Granted(Grant {
+        problem: which,
+        delay: w.delay,
+        cost: w.cost,
+        links: w.links as u32,
+    })
+}
+
 // Problem `which`: `kept` is the column of the weight that is kept, `scaled` that of the other one scaled.
 pub fn attempt(
     work: &mut [u32],
     path: &mut [u32],
     links: &[u32],
     usable: &[u32],
-    delay: &[u32; 256],
-    cost: &[u32; 256],
     kept: &[u32; 256],
     scaled: &[u32; 256],
     p: Reduced,
@@ -32,7 +61,6 @@ pub fn attempt(
     which: u32,
 ) -> Answer
     requires { ⌜ Sound p (now links) (now usable) (now kept) ⌝ }
-    requires { ⌜ Columns (now links) (now delay) (now cost) ⌝ }
     requires { ⌜ (16384 ≤ length (now work)) × (31 ≤ length (now path)) × (s < p .nodes) × (t < p .nodes) × (s ≡ t → ⊥) ⌝ }
     ensures answer { λ a. ⌜ a ≡ answerOf (netIn p (now (links .entry)) (now (usable .entry)))
         (outcomeOf which (solve (netIn p (now (links .entry)) (now (usable .entry))) (problemOf p (now (kept .entry)) (now (scaled .entry))) s t)) ⌝ }
@@ -45,12 +73,5 @@ pub fn attempt(
     if p.bound < work[2 * at] {
         return Answer::NoSolution;
     }
-    let next = trace(work, links, scaled, p, s, t);
-    let w = forward(p.nodes, p.links, links, delay, cost, &next, path, s, t);
-    Answer::Granted(Grant {
-        problem: which,
-        delay: w.delay,
-        cost: w.cost,
-        links: w.links as u32,
-    })
+    found(work, path, links, scaled, p, s, t, which)
 }

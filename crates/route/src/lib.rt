@@ -25,6 +25,16 @@ pub struct Grant {
     pub links: u32,
 }
 
+// The roles of a link's two weights in problem `which`, 1 or 2: the weight in word `kept` of each link stays within its
+// bound, and the weight in word `other` is scaled by its own.
+pub struct Roles {
+    pub which: u32,
+    pub kept: usize,
+    pub kept_bound: u32,
+    pub other: usize,
+    pub other_bound: u32,
+}
+
 // What a search answers.
 pub enum Answer {
     // No usable path exists.

@@ -5,7 +5,9 @@ ghost use Rattle.network.specs.Words.{netOf};
 ghost use Rattle.ebf.specs.Search.{tried};
 ghost use Rattle.route.specs.Answers.{answerOf, pathAfter};
 ghost use Rattle.route.specs.Ready.{Ready};
+ghost use Rattle.route.specs.Roles.{Weights, outcomeBy};
 use crate::Answer;
+use crate::Roles;
 use crate::attempt::attempt;
 use links::link;
 use links::link::column;
@@ -13,7 +15,39 @@ use network::Request;
 use table::Reduced;
 use table::weights::scaled_column;
 
-// The answer for request `r` at `x`.
+// The answer of one problem of request `r` at `x`, with the weights in the roles `w`. Both problems are this one: the
+// roles alone exchange the weights.
+fn reduced_problem(
+    n: usize,
+    m: usize,
+    links: &[u32],
+    usable: &[u32],
+    work: &mut [u32],
+    path: &mut [u32],
+    r: Request,
+    x: usize,
+    w: Roles,
+) -> Answer
+    requires { ⌜ Ready n m (now links) (now usable) (now work) (now path) r ⌝ }
+    requires { ⌜ (x ≤ 248) × Weights w ⌝ }
+    ensures answer { λ a. ⌜ a ≡ answerOf (netOf n m (now (links .entry)) (now (usable .entry))) (outcomeBy n m (now (links .entry)) (now (usable .entry)) r x w) ⌝ }
+    ensures path { λ a. ⌜ now (path .exit) ≡ pathAfter (outcomeBy n m (now (links .entry)) (now (usable .entry)) r x w) (now (path .entry)) ⌝ }
+{
+    let s = link::wide(r.source);
+    let t = link::wide(r.target);
+    let kept = column(links, m, w.kept);
+    let other = column(links, m, w.other);
+    let scaled = scaled_column(&other, m, x, w.other_bound);
+    let p = Reduced {
+        nodes: n,
+        links: m,
+        x: x,
+        bound: w.kept_bound,
+    };
+    attempt(work, path, links, usable, &kept, &scaled, p, s, t, w.which)
+}
+
+// The answer for request `r` at `x`: the second problem is tried only where the first has no solution.
 pub fn both_problems(
     n: usize,
     m: usize,
@@ -29,53 +63,23 @@ pub fn both_problems(
     ensures answer { λ a. ⌜ a ≡ answerOf (netOf n m (now (links .entry)) (now (usable .entry))) (tried (netOf n m (now (links .entry)) (now (usable .entry))) r x) ⌝ }
     ensures path { λ a. ⌜ now (path .exit) ≡ pathAfter (tried (netOf n m (now (links .entry)) (now (usable .entry))) r x) (now (path .entry)) ⌝ }
 {
-    let s = link::wide(r.source);
-    let t = link::wide(r.target);
-    let delay = column(links, m, link::DELAY);
-    let cost = column(links, m, link::COST);
-    let scaled_cost = scaled_column(&cost, m, x, r.cost_bound);
-    let one = Reduced {
-        nodes: n,
-        links: m,
-        x: x,
-        bound: r.delay_bound,
+    let one = Roles {
+        which: 1,
+        kept: link::DELAY,
+        kept_bound: r.delay_bound,
+        other: link::COST,
+        other_bound: r.cost_bound,
     };
-    let first = attempt(
-        work,
-        path,
-        links,
-        usable,
-        &delay,
-        &cost,
-        &delay,
-        &scaled_cost,
-        one,
-        s,
-        t,
-        1,
-    );
+    let two = Roles {
+        which: 2,
+        kept: link::COST,
+        kept_bound: r.cost_bound,
+        other: link::DELAY,
+        other_bound: r.delay_bound,
+    };
+    let first = reduced_problem(n, m, links, usable, work, path, r, x, one);
     let Answer::NoSolution = first else {
         return first;
     };
-    let scaled_delay = scaled_column(&delay, m, x, r.delay_bound);
-    let two = Reduced {
-        nodes: n,
-        links: m,
-        x: x,
-        bound: r.cost_bound,
-    };
-    attempt(
-        work,
-        path,
-        links,
-        usable,
-        &delay,
-        &cost,
-        &cost,
-        &scaled_delay,
-        two,
-        s,
-        t,
-        2,
-    )
+    reduced_problem(n, m, links, usable, work, path, r, x, two)
 }
