@@ -1,5 +1,5 @@
 -- Document 01's worked cases: the replies of all of them are computed at once, and a computed reply is what the call
--- means, by proofs/Meaning.antt of `booking`. Beside them stand the figures of M2, M3 and M11.
+-- means, by proofs/Meaning.antt of `rules`. Beside them stand the figures of M2, M3 and M11.
 -- Assumes nothing.
 use Prim.Native.Nat.{ℕ, zero, suc, _≤_, _<_}
 use mathlib.Core.Path.{_≡_, refl, subst}

@@ -1,5 +1,5 @@
 -- Document 01's worked cases M1 to M11: the areas, the calls, and the replies that it gives for them. What a case says
--- is what the reply means, by specs/Meaning.antt of `booking`, with no algorithm in it.
+-- is what the reply means, by specs/Meaning.antt of `rules`, with no algorithm in it.
 -- Assumes nothing.
 use Prim.Native.Nat.{ℕ, _+_, _*_}
 use mathlib.Core.Path.{_≡_}

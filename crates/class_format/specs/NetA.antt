@@ -3,20 +3,13 @@
 use Prim.Native.Nat.{ℕ}
 use mathlib.Core.List.{List, [], _∷_, _++_}
 use Rattle.link_format.specs.Format.{bytesOfAll, trailer}
+use Rattle.cases.specs.Cases.{linksA}
 
--- ---- the file: four links, each from, to, delay, cost, capacity; no notes; four nodes
-abbrev pub netALinks : List ℕ
-netALinks =
-    0 ∷ 1 ∷ 2 ∷ 5 ∷ 10
-    ∷ 1 ∷ 2 ∷ 2 ∷ 5 ∷ 10
-    ∷ 2 ∷ 3 ∷ 2 ∷ 5 ∷ 10
-    ∷ 0 ∷ 3 ∷ 9 ∷ 1 ∷ 10
-    ∷ []
-
+-- ---- the file: four links, no notes
 -- with so many nodes
 unfoldable pub fileFor : ℕ → List ℕ
 unfolding bytesOfAll
-fileFor n = bytesOfAll netALinks ++ trailer 0 4 n
+fileFor n = bytesOfAll linksA ++ trailer 0 4 n
 
 unfoldable pub netAFile : List ℕ
 unfolding fileFor

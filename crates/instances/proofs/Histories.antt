@@ -24,7 +24,8 @@ use Rattle.ledger.specs.Ledger.{admitting, releasing}
 use Rattle.ledger.specs.History.{Lending, Event, history, answers, areaAtEnd, bookings, Struck, end, strike, keep, remaining}
 use Rattle.ledger.specs.Demand.{ThirdDemand}
 use Rattle.ledger.proofs.Demands.{third-demand}
-use Rattle.instances.specs.Nets.{linksA, three, m3}
+use Rattle.cases.specs.Cases.{linksA}
+use Rattle.instances.specs.Nets.{three, m3}
 use Rattle.instances.specs.Areas.{blank, circuit}
 use Rattle.instances.specs.Calls.{work, room, calls, replies, unquoted}
 

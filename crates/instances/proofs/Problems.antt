@@ -24,7 +24,8 @@ use Rattle.ebf.proofs.Solved.{Solved, solved}
 use Rattle.area.specs.Formed.{LinkFits, linksFit}
 use Rattle.area.proofs.Formed.{links-says}
 use Rattle.station.specs.Load.{tableOf}
-use Rattle.instances.specs.Nets.{linksA, netA, shutA, three, straight, m1, m2, m3, m4, m6}
+use Rattle.cases.specs.Cases.{linksA}
+use Rattle.instances.specs.Nets.{netA, shutA, three, straight, m1, m2, m3, m4, m6}
 use Rattle.instances.proofs.Paths.{three-path, straight-path, distance-one, shut-no-path}
 
 -- ---- what the search answers

@@ -24,7 +24,8 @@ use Rattle.ledger.specs.Ledger.{quoting, opened, checks, Refuses}
 use Rattle.ledger.specs.Sentences.{Passes, Solvable, Overqualifies}
 use Rattle.ledger.specs.Demand.{ThirdDemand, GrantedPath}
 use Rattle.ledger.proofs.Demands.{third-demand, any-quote}
-use Rattle.instances.specs.Nets.{linksA, netA, three, between, m1, m3}
+use Rattle.cases.specs.Cases.{linksA}
+use Rattle.instances.specs.Nets.{netA, three, between, m1, m3}
 use Rattle.instances.specs.Areas.{blank, freshA, heldA}
 use Rattle.instances.specs.Calls.{work, room}
 use Rattle.instances.proofs.Paths.{three-path, distance-one}

@@ -22,7 +22,8 @@ use Rattle.ebf.specs.Settled.{SettledColumn}
 use Rattle.route.specs.Ready.{Ready}
 use Rattle.route.specs.Result.{Searchable}
 use Rattle.route.proofs.Result.{ready-searchable}
-use Rattle.instances.specs.Nets.{linksA, netA, shutA, between, m3}
+use Rattle.cases.specs.Cases.{linksA}
+use Rattle.instances.specs.Nets.{netA, shutA, between, m3}
 use Rattle.instances.proofs.Problems.{links-fit}
 
 -- ---- the ranges and lengths

@@ -8,7 +8,7 @@ use Rattle.station.specs.declared.Loading.the-variants as loading
 use Rattle.station.specs.declared.Reading.the-variants.{Refused, Value}
 use Rattle.station.specs.Load.{loadAnswer, areaLoaded}
 use Rattle.station.specs.Reads.{listAnswer, listed, freeAnswer}
-use Rattle.instances.specs.Nets.{linksA}
+use Rattle.cases.specs.Cases.{linksA}
 use Rattle.instances.specs.Areas.{blank, heldA, twoA}
 
 -- an area that is a word too short, one node and 33, words that are no whole link and words of 257 links, a link to a

@@ -6,7 +6,8 @@ use lib.ListN.{replicate}
 use Rattle.area.specs.Station.{Circuit}
 use Rattle.area.specs.Moves.{added}
 use Rattle.station.specs.Load.{areaLoaded}
-use Rattle.instances.specs.Nets.{linksA, linksB, three, straight}
+use Rattle.cases.specs.Cases.{linksA, linksB}
+use Rattle.instances.specs.Nets.{three, straight}
 
 -- an area of zeros, as short as it may be
 abbrev pub blank : List ℕ

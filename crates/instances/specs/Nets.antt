@@ -1,4 +1,4 @@
--- What the instances are about: document 01's net A and net B as link words and as networks, and its requests.
+-- What the instances are about: document 01's net A and net B as networks, and its requests.
 -- Assumes nothing.
 use Prim.Native.Nat.{ℕ}
 use mathlib.Core.List.{List, [], _∷_}
@@ -6,23 +6,7 @@ use lib.ListN.{replicate}
 use Rattle.network.specs.Net.{Net}
 use Rattle.network.specs.Words.{netOf}
 use Rattle.network.specs.declared.Request.{Request}
-
--- ---- the links: from, to, delay, cost, capacity
-abbrev pub linksA : List ℕ
-linksA =
-    0 ∷ 1 ∷ 2 ∷ 5 ∷ 10
-    ∷ 1 ∷ 2 ∷ 2 ∷ 5 ∷ 10
-    ∷ 2 ∷ 3 ∷ 2 ∷ 5 ∷ 10
-    ∷ 0 ∷ 3 ∷ 9 ∷ 1 ∷ 10
-    ∷ []
-
-abbrev pub linksB : List ℕ
-linksB =
-    1 ∷ 2 ∷ 0 ∷ 1 ∷ 5
-    ∷ 2 ∷ 1 ∷ 0 ∷ 1 ∷ 5
-    ∷ 1 ∷ 3 ∷ 1 ∷ 1 ∷ 5
-    ∷ 0 ∷ 1 ∷ 1 ∷ 1 ∷ 5
-    ∷ []
+use Rattle.cases.specs.Cases.{linksA, linksB}
 
 -- ---- the networks
 -- every link is usable
