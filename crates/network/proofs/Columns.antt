@@ -1,11 +1,13 @@
--- An array of 256 words that a loop fills from its first entry up: the entries passed hold what f says, the others still hold 0.
+-- An array of 256 words that a loop fills from its first entry up: the entries passed hold what f says, the others still
+-- hold 0, which is what every word past the links of a table is.
 -- Assumes nothing.
 use mathlib.Core.Path.{_≡_, _∙_, sym}
 use mathlib.Core.List.{List}
-use Prim.Native.Nat.{ℕ, _+_, _≤_, _<_}
+use Prim.Native.Nat.{ℕ, _+_, _*_, _≤_, _<_}
 use native.Mathlib.Omega.{arith}
 use lib.ListN.{length, getD, set, replicate, length-set, length-replicate, getD-replicate, List·getD-eq-default}
 use lib.Seq.{getD-set-same, getD-set-other}
+use Rattle.network.specs.Words.{field}
 use Rattle.network.proofs.Tests.{by-lt, by-eq}
 
 -- the entries below i are done
@@ -38,3 +40,7 @@ module _ (f : ℕ → ℕ) where
   -- after the last turn, where f is 0 from there on
   pub filled-done : (i : ℕ) (words : List ℕ) → Filled f i words → ((k : ℕ) → i ≤ k → f k ≡ 0) → (k : ℕ) → getD words k 0 ≡ f k
   filled-done i words so none k = by-lt k i (so .done k) (λ l. so .rest k l ∙ sym (none k l))
+
+-- no link stands past the table's end
+pub past-links : (links : List ℕ) (m i j : ℕ) → length links ≡ 5 * m → m ≤ i → field links i j ≡ 0
+past-links links m i j whole high = List·getD-eq-default links 0 (omega arith)

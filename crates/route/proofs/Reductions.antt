@@ -8,14 +8,14 @@ use Prim.Native.Nat.{ℕ, _*_, _≤_, _<_}
 use native.Mathlib.Nat.{mul-le-mul}
 use native.Mathlib.Omega.{arith}
 use types.Run.{OneOf}
-use lib.ListN.{length, getD, List·getD-eq-default}
+use lib.ListN.{length, getD}
 use borrow.Author.Tests.{lt-ltb, le-ltb}
 use Rattle.network.specs.Net.{Net}
 use Rattle.network.specs.Scale.{scaled}
 use Rattle.network.specs.Words.{field, netOf, LinkWords}
 use Rattle.network.specs.declared.Request.{Request}
 use Rattle.network.specs.Reduce.{problemOne, problemTwo, Outcome, no-path, no-solution, granted}
-use Rattle.network.proofs.Tests.{by-eq, by-lt}
+use Rattle.network.proofs.Tests.{by-eq}
 use Rattle.ebf.specs.Distance.{distance}
 use Rattle.ebf.specs.Solve.{solve}
 use Rattle.ebf.specs.Search.{outcomeOf, orElse, tried, search}
@@ -29,18 +29,10 @@ use Rattle.route.specs.Ready.{Ready}
 use Rattle.route.specs.Roles.{Weights, rolesOne, rolesTwo, problemBy, outcomeBy}
 
 -- ---- one problem
--- a column that holds the delays or the costs of the links
-module _ {n m : ℕ} {links : List ℕ} (words : LinkWords n m links) {j : ℕ} (low : 2 ≤ j) (high : j ≤ 3) (column : List ℕ)
-    (holds : (i : ℕ) → getD column i 0 ≡ field links i j) where
-  weight-light : (i : ℕ) → i < m → field links i j ≤ 1000000
-  weight-light i l = by-eq j 2 (λ e. rw e (words .delay i l)) (λ ne. let e : j ≡ 3 = omega arith in rw e (words .cost i l))
-
-  -- no link stands past the table's end
-  pub column-past : (i : ℕ) → m ≤ i → getD column i 0 ≡ 0
-  column-past i past = holds i ∙ List·getD-eq-default links 0 (omega (arith, words .whole))
-
-  pub column-light : (i : ℕ) → getD column i 0 ≤ 1000000
-  column-light i = by-lt i m (λ l. omega (arith, holds i, weight-light i l)) (λ l. omega (arith, column-past i l))
+-- the delays and the costs of the links are in their range
+pub weight-light : {n m : ℕ} {links : List ℕ} → LinkWords n m links → {j : ℕ} → 2 ≤ j → j ≤ 3 → (i : ℕ) → i < m → field links i j ≤ 1000000
+weight-light words {j} low high i l =
+    by-eq j 2 (λ e. rw e (words .delay i l)) (λ ne. let e : j ≡ 3 = omega arith in rw e (words .cost i l))
 
 abbrev pub reduced : ℕ → ℕ → ℕ → ℕ → Reduced
 reduced n m x bound = record { nodes = n; links = m; x = x; bound = bound }
@@ -55,13 +47,13 @@ module _ (n m : ℕ) (links usable : List ℕ) (r : Request) (x : ℕ) (w : Role
           table = ready .table;
           x = low;
           bound = weights .kept-most;
-          weight = λ i l. column-light (ready .table .words) (weights .kept-low) (weights .kept-high) kept keeps i;
+          weight = λ i l. rw (keeps i) (weight-light (ready .table .words) (weights .kept-low) (weights .kept-high) i l);
         };
         flags = ready .flags;
       }
 
-  -- the scales are those of the other column with its bound, so the problem is the one with the weights in these roles
-  module _ (other scales : List ℕ) (s t : ℕ) where
+  -- the scales are those of the other weight with its bound, so the problem is the one with the weights in these roles
+  module _ (scales : List ℕ) (s t : ℕ) where
     abbrev o : Outcome
     o = outcomeOf (w .which) (solve (netOf n m links usable) (problemOf (reduced n m x (w .«kept_bound»)) kept scales) s t)
 
@@ -69,12 +61,10 @@ module _ (n m : ℕ) (links usable : List ℕ) (r : Request) (x : ℕ) (w : Role
         → s ≡ r .source
         → t ≡ r .target
         → ((i : ℕ) → getD kept i 0 ≡ field links i (w .kept))
-        → ((i : ℕ) → getD other i 0 ≡ field links i (w .other))
-        → ((i : ℕ) → getD scales i 0 ≡ scaled x (w .«other_bound») (getD other i 0))
+        → ((i : ℕ) → getD scales i 0 ≡ scaled x (w .«other_bound») (field links i (w .other)))
         → (a ≡ answerOf (netOf n m links usable) (outcomeBy n m links usable r x w)) × (path₁ ≡ pathAfter (outcomeBy n m links usable r x w) path)
     unfolding problemOf problemBy outcomeBy
-    roles-answer path told left from to keeps others scaling =
-        let scales-are : (i : ℕ) → getD scales i 0 ≡ scaled x (w .«other_bound») (field links i (w .other)) = λ i. scaling i ∙ ap (scaled x (w .«other_bound»)) (others i) in
+    roles-answer path told left from to keeps scales-are =
         let problem : problemOf (reduced n m x (w .«kept_bound»)) kept scales ≡ problemBy links x w =
         λ z. record { kept = fun-ext keeps z; bound = w .«kept_bound»; scaledBy = fun-ext scales-are z; x = x } in
         let is : o ≡ outcomeBy n m links usable r x w = rw (problem, from, to) refl in

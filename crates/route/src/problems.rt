@@ -36,8 +36,7 @@ fn reduced_problem(
     let s = link::wide(r.source);
     let t = link::wide(r.target);
     let kept = column(links, m, w.kept);
-    let other = column(links, m, w.other);
-    let scaled = scaled_column(&other, m, x, w.other_bound);
+    let scaled = scaled_column(links, m, w.other, x, w.other_bound);
     let p = Reduced {
         nodes: n,
         links: m,

@@ -1,19 +1,12 @@
 -- `links::link::column` meets its contract: the loop fills the column entry by entry, and past the table's end both sides are 0.
 -- Assumes nothing.
-use mathlib.Core.Path.{_≡_}
-use mathlib.Core.List.{List}
-use Prim.Native.Nat.{ℕ, _-_, _*_, _≤_}
+use Prim.Native.Nat.{_-_, _≤_}
 use native.Mathlib.Omega.{arith}
 use borrow.Author.Needs.{needs}
-use lib.ListN.{length, List·getD-eq-default}
 use Rattle.network.specs.Words.{field}
-use Rattle.network.proofs.Columns.{Filled, filled-none, filled-more, filled-done}
+use Rattle.network.proofs.Columns.{Filled, filled-none, filled-more, filled-done, past-links}
 use Rattle.links.proofs.link.column.Statement.{statement}
 use Rattle.links.proofs.link.column.Tie as tie
-
--- no link stands past the table's end
-past : (links : List ℕ) (m i j : ℕ) → length links ≡ 5 * m → m ≤ i → field links i j ≡ 0
-past links m i j whole high = List·getD-eq-default links 0 (omega arith)
 
 abbrev Inv-loop : tie.InvT-loop
 Inv-loop links m j words₀ i₀ words i = Filled (λ k. field links k j) i words × (i ≤ m)
@@ -45,7 +38,7 @@ loop-again c = (filled-more _ _ _ _ (c .before .before .loop .inv .0) (omega ari
 returns : tie.Need-returns Inv-loop μ-loop
 returns c =
     let start = c .before .before .before in
-    filled-done _ _ _ (c .before .loop .inv .0) (λ k l. past (start .args .links .now) _ k (start .args .j) (start .pre .1 .1) (omega arith))
+    filled-done _ _ _ (c .before .loop .inv .0) (λ k l. past-links (start .args .links .now) _ k (start .args .j) (start .pre .1 .1) (omega arith))
 
 pub column-spec : {M : Type 1} → statement M
 column-spec =

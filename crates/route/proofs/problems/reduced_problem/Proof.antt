@@ -2,7 +2,7 @@
 -- Assumes nothing.
 use mathlib.Core.Path.{sym, _∙_}
 use native.Mathlib.Omega.{arith}
-use Rattle.route.proofs.Reductions.{column-past, column-light, roles-sound, roles-answer}
+use Rattle.route.proofs.Reductions.{weight-light, roles-sound, roles-answer}
 use borrow.Author.Needs.{needs}
 use Rattle.route.proofs.problems.reduced_problem.Statement.{statement}
 use Rattle.route.proofs.problems.reduced_problem.Tie as tie
@@ -18,31 +18,23 @@ column-requires c κs =
     let pre = c .before .before .before .before .before .before .pre in
     (pre .0 .table .links-most, (omega (arith, pre .1 .1 .kept-high), pre .0 .table .words .whole))
 
-column-requires-2 : tie.Need-column-requires-2
-column-requires-2 c κs =
-    let pre = c .before .before .before .before .before .before .before .pre in
-    (pre .0 .table .links-most, (omega (arith, pre .1 .1 .other-high), pre .0 .table .words .whole))
-
 scaled-column-requires : tie.Need-scaled-column-requires
 scaled-column-requires c κs =
-    let start = c .before .before .before .before .before .before .before .before .before in
-    let ready = start .pre .0 in
-    let weights = start .pre .1 .1 in
-    let words = ready .table .words in
-    let others = c .before .column2 in (
-      (ready .table .links-most, start .pre .1 .0, omega (arith, weights .kept-some, weights .other-some), omega (arith, weights .kept-most, weights .other-most)),
-      (column-light words (weights .other-low) (weights .other-high) (others .result) (others .ensures), column-past words (weights .other-low) (weights .other-high) (others .result) (others .ensures)),
+    let start = c .before .before .before .before .before .before .before in
+    let table = start .pre .0 .table in
+    let weights = start .pre .1 .1 in (
+      (table .links-most, omega (arith, weights .other-high), start .pre .1 .0, omega (arith, weights .kept-some, weights .other-some), omega (arith, weights .kept-most, weights .other-most)),
+      (table .words .whole, weight-light (table .words) (weights .other-low) (weights .other-high)),
     )
 
 attempt-requires : tie.Need-attempt-requires
 attempt-requires c κs =
-    let start = c .before .before .before .before .before .before .before .before .before .before .before .before .before .before in
+    let start = c .before .before .before .before .before .before .before .before .before .before .before .before in
     let args = start .args in
     let ready = start .pre .0 in
-    let keeps = c .before .before .before .before .before .before .before .column in
-    let from = c .before .before .before .before .before .before .before .before .before .wide .ensures in
-    let to = c .before .before .before .before .before .before .before .before .wide2 .ensures in (
-      roles-sound (args .n) (args .m) (args .links .now) (args .usable .now) (args .r) (args .x) (args .w) _ ready (start .pre .1 .0) (start .pre .1 .1) (keeps .ensures),
+    let from = c .before .before .before .before .before .before .before .wide .ensures in
+    let to = c .before .before .before .before .before .before .wide2 .ensures in (
+      roles-sound (args .n) (args .m) (args .links .now) (args .usable .now) (args .r) (args .x) (args .w) _ ready (start .pre .1 .0) (start .pre .1 .1) (c .before .before .before .before .before .column .ensures),
       (ready .memory, ready .buffer, omega (arith, from, ready .source), omega (arith, to, ready .target), λ e. ready .apart (sym from ∙ e ∙ to)),
     )
 
@@ -54,14 +46,13 @@ same-length-2 c = c .before .before .before .before .attempt .kept .1 .0
 
 returns : tie.Need-returns
 returns c =
-    let args = c .before .before .before .before .before .before .before .before .before .before .before .before .before .before .before .before .before .before .before .args in
-    let keeps = c .before .before .before .before .before .before .before .before .before .before .before .before .column .ensures in
-    let others = c .before .before .before .before .before .before .before .before .before .before .before .column2 in
+    let args = c .before .before .before .before .before .before .before .before .before .before .before .before .before .before .before .before .before .args in
+    let keeps = c .before .before .before .before .before .before .before .before .before .before .column .ensures in
     let scales = c .before .before .before .before .before .before .before .before .before .scaled-column .ensures in
-    let from = c .before .before .before .before .before .before .before .before .before .before .before .before .before .before .wide .ensures in
-    let to = c .before .before .before .before .before .before .before .before .before .before .before .before .before .wide2 .ensures in
+    let from = c .before .before .before .before .before .before .before .before .before .before .before .before .wide .ensures in
+    let to = c .before .before .before .before .before .before .before .before .before .before .before .wide2 .ensures in
     let told = c .before .before .before .before .attempt .ensures in
-    roles-answer (args .n) (args .m) (args .links .now) (args .usable .now) (args .r) (args .x) (args .w) _ (others .result) _ _ _ (args .path .now) (told .0) (told .1) from to (λ i. omega (arith, keeps i, others .ensures i)) (others .ensures) (λ i. omega (arith, scales i))
+    roles-answer (args .n) (args .m) (args .links .now) (args .usable .now) (args .r) (args .x) (args .w) _ _ _ _ (args .path .now) (told .0) (told .1) from to (λ i. omega (arith, keeps i)) (λ i. omega (arith, scales i))
 
 pub reduced-problem-spec : {M : Type 1} → statement M
 reduced-problem-spec =
@@ -70,7 +61,6 @@ reduced-problem-spec =
     wide-requires
     wide-requires-2
     column-requires
-    column-requires-2
     scaled-column-requires
     attempt-requires
     same-length

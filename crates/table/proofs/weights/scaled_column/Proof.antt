@@ -1,13 +1,13 @@
--- `table::weights::scaled_column` meets its contract: the loop fills the column entry by entry, and a weight of 0 is scaled to 0.
--- Assumes nothing.
-use mathlib.Core.Path.{_≡_}
+-- `table::weights::scaled_column` meets its contract: the loop fills the column entry by entry, and past the table's end a
+-- weight of 0 is scaled to 0. Assumes nothing.
+use mathlib.Core.Path.{_≡_, ap, _∙_}
 use Prim.Native.Nat.{ℕ, _-_, _≤_, _<_}
 use native.Mathlib.Nat.{zero-mul, zero-add, div-eq-of-lt}
 use native.Mathlib.Omega.{arith}
 use borrow.Author.Needs.{needs}
-use lib.ListN.{getD}
 use Rattle.network.specs.Scale.{scaled}
-use Rattle.network.proofs.Columns.{Filled, filled-none, filled-more, filled-done}
+use Rattle.network.specs.Words.{field}
+use Rattle.network.proofs.Columns.{Filled, filled-none, filled-more, filled-done, past-links}
 use Rattle.table.proofs.weights.scaled_column.Statement.{statement}
 use Rattle.table.proofs.weights.scaled_column.Tie as tie
 
@@ -17,25 +17,24 @@ unfolding scaled
 scaled-none x bound weight some none = rw (none, zero-mul, zero-add) (div-eq-of-lt (omega arith))
 
 abbrev Inv-loop : tie.InvT-loop
-Inv-loop weights m x bound words₀ i₀ words i = Filled (λ k. scaled x bound (getD weights k 0)) i words × (i ≤ m)
+Inv-loop links m j x bound words₀ i₀ words i = Filled (λ k. scaled x bound (field links k j)) i words × (i ≤ m)
 
 abbrev μ-loop : tie.MeasureT-loop
-μ-loop weights m x bound words₀ i₀ words i = m - i
+μ-loop links m j x bound words₀ i₀ words i = m - i
 
 loop-holds : tie.Need-loop-holds Inv-loop μ-loop
 loop-holds c = (filled-none _, search needs)
 
-mul-scale : tie.Need-mul-scale Inv-loop μ-loop
-mul-scale c = search needs
-
-element-copy-out-scale : tie.Need-element-copy-out-scale Inv-loop μ-loop
-element-copy-out-scale c = search needs
+word-requires : tie.Need-word-requires Inv-loop μ-loop
+word-requires c κs = search needs
 
 cast-scale : tie.Need-cast-scale Inv-loop μ-loop
 cast-scale c = search needs
 
 scale-requires : tie.Need-scale-requires Inv-loop μ-loop
-scale-requires c κs = omega (arith, c .before .before .before .pre .1 .0 (c .before .before .loop .i))
+scale-requires c κs =
+    let start = c .before .before .before .before in
+    omega (arith, c .word .ensures, start .pre .1 .1 (c .before .before .loop .i) (omega arith))
 
 mul-words : tie.Need-mul-words Inv-loop μ-loop
 mul-words c = search needs
@@ -50,10 +49,16 @@ loop-less : tie.Need-loop-less Inv-loop μ-loop
 loop-less c = search needs
 
 loop-again : tie.Need-loop-again Inv-loop μ-loop
-loop-again c = (filled-more _ _ _ _ (c .before .before .before .loop .inv .0) (omega arith) (c .scale .ensures), search needs)
+loop-again c = (
+  filled-more _ _ _ _ (c .before .before .before .loop .inv .0) (omega arith) (c .scale .ensures ∙ ap (scaled _ _) (c .before .word .ensures)),
+  search needs,
+)
 
 returns : tie.Need-returns Inv-loop μ-loop
-returns c = filled-done _ _ _ (c .before .loop .inv .0) (λ k l. scaled-none _ _ _ (omega arith) (c .before .before .pre .1 .1 k (omega arith)))
+returns c =
+    let start = c .before .before .before in
+    filled-done _ _ _ (c .before .loop .inv .0)
+    (λ k l. scaled-none _ _ _ (omega arith) (past-links (start .args .links .now) _ k (start .args .j) (start .pre .1 .0) (omega arith)))
 
 pub scaled-column-spec : {M : Type 1} → statement M
 scaled-column-spec =
@@ -62,8 +67,7 @@ scaled-column-spec =
     Inv-loop
     μ-loop
     loop-holds
-    mul-scale
-    element-copy-out-scale
+    word-requires
     cast-scale
     scale-requires
     mul-words
