@@ -8,9 +8,9 @@ ghost use lib.Seq.{sets};
 ghost use Rattle.answer_lines.specs.Answers.{grantText, answerText};
 use libc::STDOUT_FILENO;
 use links::link;
+use loading::Loading;
 use route::Grant;
 use rules::Answer;
-use station::Loading;
 use station::Reading;
 use station::reads;
 

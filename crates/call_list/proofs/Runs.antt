@@ -11,9 +11,9 @@ use lib.ListN.{length, getD, take, replicate, length-take, length-replicate}
 use Rattle.network.proofs.Tests.{by-bool}
 use Rattle.area.specs.Formed.{linksFit}
 use Rattle.area.specs.Order.{Same}
-use Rattle.station.specs.declared.Loading.the-variants.{Loaded}
-use Rattle.station.specs.Load.{loadAnswer, areaLoaded}
-use Rattle.station.proofs.LoadCases.{all-pass}
+use Rattle.loading.specs.declared.Loading.the-variants.{Loaded}
+use Rattle.loading.specs.Load.{loadAnswer, areaLoaded}
+use Rattle.loading.proofs.LoadCases.{all-pass}
 use Rattle.ledger.specs.Ledger.{quoting, admitting, releasing}
 use Rattle.ledger.specs.History.{Lending, measured, answers, areaAtEnd, bookings, Struck, end, strike, keep, remaining}
 use Rattle.ledger.proofs.Demands.{third-demand}

@@ -22,7 +22,7 @@ use Rattle.ebf.specs.Distance.{spread, layer, distance}
 use Rattle.ebf.specs.Search.{tried, search}
 use Rattle.area.specs.Station.{tableIn, circuitOf, station}
 use Rattle.area.specs.Books.{books, net}
-use Rattle.station.specs.Load.{loadAnswer}
+use Rattle.loading.specs.Load.{loadAnswer}
 use Rattle.rules.specs.Replies.{Reply}
 use Rattle.rules.specs.Calls.{quote, admission}
 use Rattle.rules.specs.Meaning.{netFor}

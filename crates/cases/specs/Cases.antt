@@ -11,8 +11,8 @@ use Rattle.network.specs.Problem.{Distance}
 use Rattle.network.specs.Lists.{All}
 use Rattle.network.specs.declared.Request.{Request}
 use Rattle.network.specs.Reduce.{costBound}
-use Rattle.station.specs.declared.Loading.the-variants.{Loaded}
-use Rattle.station.specs.Load.{loadAnswer, loaded}
+use Rattle.loading.specs.declared.Loading.the-variants.{Loaded}
+use Rattle.loading.specs.Load.{loadAnswer, loaded}
 use Rattle.rules.specs.Replies.{Reply, refuses, grants}
 use Rattle.rules.specs.Calls.{booked}
 use Rattle.rules.specs.Meaning.{netFor, Quoted, Admitted}

@@ -8,8 +8,8 @@ ghost use Rattle.class_format.specs.Output.{refusal, loadOutput, fileOutput, ou
 use class_lines::put_lines;
 use link_format::Reading;
 use links::link;
-use station::Loading;
-use station::load::load;
+use loading::Loading;
+use loading::load::load;
 
 // A word and a refusal's number.
 fn put_refusal(text: &mut [u8; 4096], word: &[u8; 4], k: u32) -> usize

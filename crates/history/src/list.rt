@@ -16,6 +16,7 @@ use booking::calls;
 use libc::STDOUT_FILENO;
 use links::link;
 use network::Request;
+use quotes::quote::quote;
 use rules::Answer;
 
 // The list of calls. A row is kind, circuit number, source, target, units, delay bound, cost bound and coefficient; a
@@ -83,7 +84,7 @@ fn answered(area: &mut [u32; 3459], work: &mut [u32], path: &mut [u32], row: [u3
     let circuit = row[1];
     let r = request(row);
     if kinds::is_quote(kind) {
-        return calls::quote(area, work, path, r);
+        return quote(area, work, path, r);
     }
     if kind == RELEASE {
         return calls::release(area, circuit);

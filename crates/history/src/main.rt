@@ -12,8 +12,8 @@
 ghost use mathlib.Core.Path.{_≡_};
 ghost use mathlib.Core.Bool.{true, false};
 ghost use Rattle.area.specs.Order.{Same};
-ghost use Rattle.station.specs.declared.Loading.the-variants.{Loaded};
-ghost use Rattle.station.specs.Load.{loadAnswer, areaLoaded};
+ghost use Rattle.loading.specs.declared.Loading.the-variants.{Loaded};
+ghost use Rattle.loading.specs.Load.{loadAnswer, areaLoaded};
 ghost use Rattle.ledger.specs.History.{areaAtEnd, bookings};
 ghost use Rattle.cases.specs.Cases.{linksA};
 ghost use Rattle.call_list.specs.Calls.{calls};
@@ -24,7 +24,7 @@ mod list;
 
 use cases::NET_A;
 use libc::STDOUT_FILENO;
-use station::load::load;
+use loading::load::load;
 
 // Loads net A, which every area of this length takes.
 fn load_net(area: &mut [u32; 3459])

@@ -15,7 +15,7 @@ use Rattle.area.specs.Held.{ListsHeld}
 use Rattle.area.proofs.Formed.{formed-says, unformed}
 use Rattle.area.proofs.Added.{added-untouched}
 use Rattle.area.proofs.Order.{usage-same, holds-same, count-same}
-use Rattle.station.specs.Load.{tableOf, fresh, loaded}
+use Rattle.loading.specs.Load.{tableOf, fresh, loaded}
 use Rattle.cases.specs.Cases.{linksA, linksB}
 use Rattle.instances.specs.Nets.{three, straight}
 use Rattle.instances.specs.Areas.{freshA, freshB, circuit, heldA, twoA}

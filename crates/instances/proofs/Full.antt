@@ -28,9 +28,9 @@ use Rattle.area.specs.Formed.{WellFormed}
 use Rattle.area.specs.Moves.{withCircuit}
 use Rattle.area.proofs.Formed.{both, range-test, formed-test}
 use Rattle.area.proofs.Added.{added-station}
-use Rattle.station.specs.declared.Loading.the-variants.{Loaded}
-use Rattle.station.specs.Load.{tableOf, loadAnswer, areaLoaded}
-use Rattle.station.proofs.Loads.{accepted-station, accepted-formed}
+use Rattle.loading.specs.declared.Loading.the-variants.{Loaded}
+use Rattle.loading.specs.Load.{tableOf, loadAnswer, areaLoaded}
+use Rattle.loading.proofs.Loads.{accepted-station, accepted-formed}
 use Rattle.station.proofs.ReadCases.{links-few}
 use Rattle.rules.specs.Requests.{requestFits}
 use Rattle.rules.specs.Replies.{Reply, refuses, grants, replyOf}

@@ -23,7 +23,7 @@ use Rattle.ebf.specs.Solve.{pathIn, answerIn, solveIn, solve}
 use Rattle.ebf.proofs.Solved.{Solved, solved}
 use Rattle.area.specs.Formed.{LinkFits, linksFit}
 use Rattle.area.proofs.Formed.{links-says}
-use Rattle.station.specs.Load.{tableOf}
+use Rattle.loading.specs.Load.{tableOf}
 use Rattle.cases.specs.Cases.{linksA}
 use Rattle.instances.specs.Nets.{netA, shutA, three, straight, m1, m2, m3, m4, m6}
 use Rattle.instances.proofs.Paths.{three-path, straight-path, distance-one, shut-no-path}

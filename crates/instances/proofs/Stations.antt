@@ -4,9 +4,9 @@ use mathlib.Core.Path.{_≡_, refl}
 use mathlib.Core.List.{[], _∷_}
 use lib.ListN.{replicate}
 use Rattle.area.specs.Station.{tableIn, circuitOf}
-use Rattle.station.specs.declared.Loading.the-variants as loading
+use Rattle.loading.specs.declared.Loading.the-variants as loading
 use Rattle.station.specs.declared.Reading.the-variants.{Refused, Value}
-use Rattle.station.specs.Load.{loadAnswer, areaLoaded}
+use Rattle.loading.specs.Load.{loadAnswer, areaLoaded}
 use Rattle.station.specs.Reads.{listAnswer, listed, freeAnswer}
 use Rattle.cases.specs.Cases.{linksA}
 use Rattle.instances.specs.Areas.{blank, heldA, twoA}

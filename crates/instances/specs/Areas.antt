@@ -5,7 +5,7 @@ use mathlib.Core.List.{List, [], _∷_}
 use lib.ListN.{replicate}
 use Rattle.area.specs.Station.{Circuit}
 use Rattle.area.specs.Moves.{added}
-use Rattle.station.specs.Load.{areaLoaded}
+use Rattle.loading.specs.Load.{areaLoaded}
 use Rattle.cases.specs.Cases.{linksA, linksB}
 use Rattle.instances.specs.Nets.{three, straight}
 

@@ -11,9 +11,9 @@ use Rattle.area.specs.Books.{Books}
 use Rattle.area.specs.Formed.{WellFormed}
 use Rattle.area.specs.Order.{Agrees}
 use Rattle.area.proofs.Order.{agrees-eq, agrees-next, agrees-sym}
-use Rattle.station.specs.declared.Loading.the-variants.{Loaded}
-use Rattle.station.specs.Load.{loadAnswer, areaLoaded}
-use Rattle.station.proofs.Loads.{accepted-station, accepted-formed}
+use Rattle.loading.specs.declared.Loading.the-variants.{Loaded}
+use Rattle.loading.specs.Load.{loadAnswer, areaLoaded}
+use Rattle.loading.proofs.Loads.{accepted-station, accepted-formed}
 use Rattle.rules.specs.Replies.{Reply}
 use Rattle.rules.specs.Calls.{quote, admission}
 use Rattle.rules.specs.Meaning.{netFor}

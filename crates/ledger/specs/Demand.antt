@@ -12,8 +12,8 @@ use Rattle.network.specs.declared.Request.{Request}
 use Rattle.route.specs.Result.{GrantedByOne, GrantedByTwo}
 use Rattle.area.specs.Books.{Books}
 use Rattle.area.specs.Order.{Same}
-use Rattle.station.specs.declared.Loading.the-variants.{Loaded}
-use Rattle.station.specs.Load.{loadAnswer, areaLoaded}
+use Rattle.loading.specs.declared.Loading.the-variants.{Loaded}
+use Rattle.loading.specs.Load.{loadAnswer, areaLoaded}
 use Rattle.rules.specs.Replies.{Reply, refuses, grants}
 use Rattle.ledger.specs.Ledger.{Call, opened, checks, Refuses, Grants}
 use Rattle.ledger.specs.History.{Lending, history, answers, areaAtEnd, bookings, atEnd, Struck, remaining}

@@ -12,7 +12,7 @@ use Rattle.network.specs.declared.Request.{Request}
 use Rattle.area.specs.Station.{Circuit, Station}
 use Rattle.area.specs.Books.{Books, net}
 use Rattle.area.specs.Moves.{withCircuit, withoutNumber}
-use Rattle.station.specs.Load.{tableOf}
+use Rattle.loading.specs.Load.{tableOf}
 use Rattle.rules.specs.Replies.{Reply, refuses, grants, releases}
 use Rattle.rules.specs.Rules.{Rule, Grant, requestRules, numberRules, searchRules, releaseRules}
 

@@ -19,11 +19,11 @@ use Rattle.area.specs.Station.{station, linksIn, heldIn}
 use Rattle.area.specs.Books.{Books, free, net}
 use Rattle.area.specs.Formed.{wellFormed}
 use Rattle.area.specs.Checks.{Check, _unless_, checked}
-use Rattle.station.specs.declared.Loading.{Loading}
-use Rattle.station.specs.declared.Loading.the-variants as loading
+use Rattle.loading.specs.declared.Loading.{Loading}
+use Rattle.loading.specs.declared.Loading.the-variants as loading
 use Rattle.station.specs.declared.Reading.{Reading}
 use Rattle.station.specs.declared.Reading.the-variants as reading
-use Rattle.station.specs.Load.{loadChecks, loadAnswer}
+use Rattle.loading.specs.Load.{loadChecks, loadAnswer}
 use Rattle.station.specs.Reads.{listChecks, listAnswer, freeAnswer}
 use Rattle.classes.specs.declared.Answer.{Answer as ClassAnswer}
 use Rattle.classes.specs.declared.Answer.the-variants as class

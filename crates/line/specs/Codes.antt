@@ -4,8 +4,8 @@
 use Prim.Native.Nat.{ℕ}
 use mathlib.Core.List.{List, [], _∷_}
 use Rattle.network.specs.declared.Request.{Request}
-use Rattle.station.specs.declared.Loading.{Loading}
-use Rattle.station.specs.declared.Loading.the-variants as loading
+use Rattle.loading.specs.declared.Loading.{Loading}
+use Rattle.loading.specs.declared.Loading.the-variants as loading
 use Rattle.station.specs.declared.Reading.{Reading}
 use Rattle.station.specs.declared.Reading.the-variants as reading
 use Rattle.rules.specs.declared.Answer.{Answer}

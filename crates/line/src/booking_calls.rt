@@ -7,6 +7,7 @@ ghost use Rattle.rules.specs.Meaning.{Quoted, Admitted, Cleared};
 ghost use Rattle.line.specs.Codes.{asked, answerCode, grantWords};
 use booking::calls;
 use network::Request;
+use quotes::quote::quote;
 use rules::Answer;
 
 // 0, and problem, delay, cost and links of a granted path in `answer`; or document 01's number, and `answer` stays as
@@ -66,7 +67,7 @@ pub extern "C" fn line_quote(
     ensures means { λ _. ⌜ Quoted (now (area .entry)) (length (now (work .entry))) (length (now (path .entry))) (asked s t units «delay_bound» «cost_bound» coefficient) (quote (now (area .entry)) (length (now (work .entry))) (length (now (path .entry))) (asked s t units «delay_bound» «cost_bound» coefficient)) ⌝ }
 {
     let r = request(s, t, units, delay_bound, cost_bound, coefficient);
-    let quoted = calls::quote(area, work, path, r);
+    let quoted = quote(area, work, path, r);
     tell(quoted, answer)
 }
 

@@ -1,12 +1,12 @@
 // Load, listing and free units.
 ghost use mathlib.Core.Path.{_≡_};
 ghost use lib.ListN.{length};
-ghost use Rattle.station.specs.Load.{loadAnswer, areaLoaded};
+ghost use Rattle.loading.specs.Load.{loadAnswer, areaLoaded};
 ghost use Rattle.station.specs.Reads.{listAnswer, listed, Lists, freeAnswer};
 ghost use Rattle.line.specs.Codes.{loadCode, readingCode, valueWord};
-use station::Loading;
+use loading::Loading;
+use loading::load::load;
 use station::Reading;
-use station::load::load;
 use station::reads;
 
 // 0, and the value in `answer`; or document 01's number, and `answer` stays as it was.

@@ -1,4 +1,2 @@
-pub mod Loads
-pub mod LoadCases
 pub mod ReadCases
 pub mod Depends

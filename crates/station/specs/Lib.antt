@@ -1,3 +1,2 @@
-pub mod Load
 pub mod Reads
 pub mod Usable

@@ -1,14 +1,7 @@
-// The calls of document 01 that need no search: load, listing and free units; and the flags of usable links. They take
+// The calls of document 01 that only read an area: listing and free units; and the flags of usable links. They take
 // anything; what the functions below them require, their callers have checked.
-pub mod load;
 pub mod reads;
 pub mod usable;
-
-// What Load answers: document 01's number, or accepted.
-pub enum Loading {
-    Refused(u32),
-    Loaded,
-}
 
 // What a listing or a question for free units answers: document 01's number, or the value.
 pub enum Reading {

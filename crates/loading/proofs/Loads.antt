@@ -14,8 +14,8 @@ use Rattle.network.proofs.Tests.{fst-of, snd-of}
 use Rattle.area.specs.Station.{wordsAt, station, tableIn}
 use Rattle.area.specs.Formed.{Sound, WellFormed, inRange, linksFit}
 use Rattle.area.specs.Checks.{pass}
-use Rattle.station.specs.declared.Loading.the-variants.{Refused, Loaded}
-use Rattle.station.specs.Load.{tableOf, fresh, loadChecks, loadAnswer, loaded, areaLoaded}
+use Rattle.loading.specs.declared.Loading.the-variants.{Refused, Loaded}
+use Rattle.loading.specs.Load.{tableOf, fresh, loadChecks, loadAnswer, loaded, areaLoaded}
 use Rattle.area.proofs.Checks.{all-pass}
 use Rattle.area.proofs.Formed.{range-says, links-says}
 use Rattle.area.proofs.WordsAt.{words-list}

@@ -1,6 +1,6 @@
 // Load: a link table into an area.
 ghost use mathlib.Core.Path.{_≡_};
-ghost use Rattle.station.specs.Load.{loadAnswer, areaLoaded};
+ghost use Rattle.loading.specs.Load.{loadAnswer, areaLoaded};
 use crate::Loading;
 use area_fit::table::links_fit;
 use area_words::layout;

@@ -1,4 +1,4 @@
--- `booking::calls::quote` meets its contract: the first check that fails gives the number, and past them the search replies.
+-- `quotes::quote::quote` meets its contract: the first check that fails gives the number, and past them the search replies.
 -- Assumes nothing.
 use mathlib.Core.Path.{sym, _∙_}
 use borrow.Author.Needs.{needs}
@@ -6,8 +6,8 @@ use lib.ListN.{length}
 use Rattle.rules.specs.Calls.{booksIn, sought}
 use Rattle.rules.proofs.CallCases.{all-passed, quote-refused, quote-passed}
 use Rattle.rules.proofs.Granting.{quoted-as, refusal-quoted}
-use Rattle.booking.proofs.calls.quote.Statement.{statement}
-use Rattle.booking.proofs.calls.quote.Tie as tie
+use Rattle.quotes.proofs.quote.quote.Statement.{statement}
+use Rattle.quotes.proofs.quote.quote.Tie as tie
 
 check-requires : tie.Need-check-requires
 check-requires c κs = search needs

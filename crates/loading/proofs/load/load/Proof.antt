@@ -5,9 +5,9 @@ use native.Mathlib.Omega.{arith}
 use borrow.Author.Needs.{needs}
 use borrow.Author.Tests.{not-true, not-false}
 use lib.ListN.{length-set}
-use Rattle.station.proofs.LoadCases.{area-short, nodes-out, words-left-over, words-many, link-out, all-pass, stored-loaded}
-use Rattle.station.proofs.load.load.Statement.{statement}
-use Rattle.station.proofs.load.load.Tie as tie
+use Rattle.loading.proofs.LoadCases.{area-short, nodes-out, words-left-over, words-many, link-out, all-pass, stored-loaded}
+use Rattle.loading.proofs.load.load.Statement.{statement}
+use Rattle.loading.proofs.load.load.Tie as tie
 
 returns : tie.Need-returns
 returns c = let a = c .before .before .before .args in area-short (a .area .now) (a .n) (a .links .now) (omega arith)

@@ -5,8 +5,8 @@ use mathlib.Core.Bool.{cond, _&&_}
 use mathlib.Core.List.{List, [], _∷_, _++_}
 use lib.Dec.{leb, eqb}
 use lib.ListN.{length, drop}
-use Rattle.station.specs.declared.Loading.{Loading}
-use Rattle.station.specs.declared.Loading.the-variants.{Refused, Loaded}
+use Rattle.loading.specs.declared.Loading.{Loading}
+use Rattle.loading.specs.declared.Loading.the-variants.{Refused, Loaded}
 use Rattle.area.specs.Station.{Table, Station}
 use Rattle.area.specs.Formed.{inRange, linksFit}
 use Rattle.area.specs.Checks.{Check, _unless_, checked, pass}

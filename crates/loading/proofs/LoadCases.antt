@@ -9,9 +9,9 @@ use native.Mathlib.Omega.{arith}
 use lib.ListN.{length, set}
 use lib.Seq.{sets, sets-eq}
 use borrow.Author.Tests.{le-leb, lt-leb, eq-eqb, ne-eqb}
-use Rattle.station.specs.declared.Loading.the-variants.{Refused, Loaded}
+use Rattle.loading.specs.declared.Loading.the-variants.{Refused, Loaded}
 use Rattle.area.specs.Formed.{inRange, linksFit}
-use Rattle.station.specs.Load.{tableOf, loadAnswer, loaded, areaLoaded}
+use Rattle.loading.specs.Load.{tableOf, loadAnswer, loaded, areaLoaded}
 
 -- n, m and 0 over the first three words, and the links behind them
 pub stored-loaded : (w : List ℕ) (n : ℕ) (links : List ℕ) → 3 + length links ≤ length w
