@@ -4,48 +4,12 @@ ghost use lib.ListN.{length};
 ghost use Rattle.rules.specs.Replies.{answerOf, pathAfter};
 ghost use Rattle.rules.specs.Calls.{quote, admission, booked, release, cleared};
 ghost use Rattle.rules.specs.Meaning.{Quoted, Admitted, Cleared};
-ghost use Rattle.line.specs.Codes.{asked, answerCode, grantWords};
+ghost use Rattle.line_codes.specs.Codes.{asked, answerCode, grantWords};
 use booking::calls;
-use network::Request;
+use line_codes::replies::request;
+use line_codes::replies::tell;
 use quotes::quote::quote;
 use rules::Answer;
-
-// 0, and problem, delay, cost and links of a granted path in `answer`; or document 01's number, and `answer` stays as
-// it was.
-fn tell(a: Answer, answer: &mut [u32; 4]) -> u32
-    ensures code { λ k. ⌜ k ≡ answerCode a ⌝ }
-    ensures answer { λ _. ⌜ now (answer .exit) ≡ grantWords a (now (answer .entry)) ⌝ }
-{
-    match a {
-        Answer::Refused(k) => k,
-        Answer::Granted(g) => {
-            *answer = [g.problem, g.delay, g.cost, g.links];
-            0
-        }
-        Answer::Released => 0, // not of a quote or an admission
-    }
-}
-
-// The request of the numbers, in the order in which C gives them.
-fn request(
-    s: u32,
-    t: u32,
-    units: u32,
-    delay_bound: u32,
-    cost_bound: u32,
-    coefficient: u32,
-) -> Request
-    ensures { λ r. ⌜ r ≡ asked s t units «delay_bound» «cost_bound» coefficient ⌝ }
-{
-    Request {
-        source: s,
-        target: t,
-        units: units,
-        delay_bound: delay_bound,
-        cost_bound: cost_bound,
-        coefficient: coefficient,
-    }
-}
 
 // 5, 6, 7, 8, 9 and 10; else 0, problem, delay, cost and links in `answer` and the path's links in `path`.
 #[no_mangle]

@@ -3,25 +3,11 @@ ghost use mathlib.Core.Path.{_≡_};
 ghost use lib.ListN.{length};
 ghost use Rattle.loading.specs.Load.{loadAnswer, areaLoaded};
 ghost use Rattle.station.specs.Reads.{listAnswer, listed, Lists, freeAnswer};
-ghost use Rattle.line.specs.Codes.{loadCode, readingCode, valueWord};
+ghost use Rattle.line_codes.specs.Codes.{loadCode, readingCode, valueWord};
+use line_codes::readings::tell;
 use loading::Loading;
 use loading::load::load;
-use station::Reading;
 use station::reads;
-
-// 0, and the value in `answer`; or document 01's number, and `answer` stays as it was.
-fn tell(a: Reading, answer: &mut [u32; 1]) -> u32
-    ensures code { λ k. ⌜ k ≡ readingCode a ⌝ }
-    ensures answer { λ _. ⌜ now (answer .exit) ≡ valueWord a (now (answer .entry)) ⌝ }
-{
-    match a {
-        Reading::Refused(k) => k,
-        Reading::Value(v) => {
-            *answer = [v];
-            0
-        }
-    }
-}
 
 // 1, 2, 3 and 4; else 0, and n, m, 0 and the links are written.
 #[no_mangle]

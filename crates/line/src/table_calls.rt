@@ -3,7 +3,7 @@ ghost use mathlib.Core.Path.{_≡_};
 ghost use lib.ListN.{length};
 ghost use Rattle.classes.specs.Classes.{classAnswer};
 ghost use Rattle.link_format.specs.Reading.{readAnswer, tableRead};
-ghost use Rattle.line.specs.Codes.{classCode, rowWords, fileCode, sizeWords};
+ghost use Rattle.line_codes.specs.Codes.{classCode, rowWords, fileCode, sizeWords};
 use classes::Answer;
 use link_format::Reading;
 

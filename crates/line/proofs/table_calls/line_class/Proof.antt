@@ -7,7 +7,7 @@ use mathlib.Core.List.{List}
 use borrow.Author.Needs.{needs}
 use Rattle.classes.specs.declared.Answer.{Answer}
 use Rattle.classes.specs.declared.Answer.the-variants as class
-use Rattle.line.specs.Codes.{classCode, rowWords}
+use Rattle.line_codes.specs.Codes.{classCode, rowWords}
 use Rattle.line.proofs.table_calls.line_class.Statement.{statement}
 use Rattle.line.proofs.table_calls.line_class.Tie as tie
 

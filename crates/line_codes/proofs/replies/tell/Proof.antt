@@ -1,4 +1,4 @@
--- `line::booking_calls::tell` meets its contract: each arm is given that `a` is its variant, at which `answerCode` and
+-- `line_codes::replies::tell` meets its contract: each arm is given that `a` is its variant, at which `answerCode` and
 -- `grantWords` compute.
 -- Assumes nothing.
 use Prim.Native.Nat.{ℕ}
@@ -7,9 +7,9 @@ use mathlib.Core.List.{List}
 use borrow.Author.Needs.{needs}
 use Rattle.rules.specs.declared.Answer.{Answer}
 use Rattle.rules.specs.declared.Answer.the-variants as answer
-use Rattle.line.specs.Codes.{answerCode, grantWords}
-use Rattle.line.proofs.booking_calls.tell.Statement.{statement}
-use Rattle.line.proofs.booking_calls.tell.Tie as tie
+use Rattle.line_codes.specs.Codes.{answerCode, grantWords}
+use Rattle.line_codes.proofs.replies.tell.Statement.{statement}
+use Rattle.line_codes.proofs.replies.tell.Tie as tie
 
 -- a refusal gives its number, and leaves the words as they stood
 refused-code : (a : Answer) (k : ℕ) → a ≡ answer.Refused k → k ≡ answerCode a

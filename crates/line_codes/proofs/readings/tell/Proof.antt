@@ -1,4 +1,4 @@
--- `line::station_calls::tell` meets its contract: each arm is given that `a` is its variant, at which `readingCode` and
+-- `line_codes::readings::tell` meets its contract: each arm is given that `a` is its variant, at which `readingCode` and
 -- `valueWord` compute.
 -- Assumes nothing.
 use Prim.Native.Nat.{ℕ}
@@ -7,9 +7,9 @@ use mathlib.Core.List.{List}
 use borrow.Author.Needs.{needs}
 use Rattle.station.specs.declared.Reading.{Reading}
 use Rattle.station.specs.declared.Reading.the-variants as reading
-use Rattle.line.specs.Codes.{readingCode, valueWord}
-use Rattle.line.proofs.station_calls.tell.Statement.{statement}
-use Rattle.line.proofs.station_calls.tell.Tie as tie
+use Rattle.line_codes.specs.Codes.{readingCode, valueWord}
+use Rattle.line_codes.proofs.readings.tell.Statement.{statement}
+use Rattle.line_codes.proofs.readings.tell.Tie as tie
 
 -- a refusal gives its number, and leaves the words as they stood
 refused-code : (a : Reading) (k : ℕ) → a ≡ reading.Refused k → k ≡ readingCode a

@@ -34,7 +34,7 @@ use Rattle.link_format.specs.declared.Reading.the-variants as file
 use Rattle.link_format.specs.Reading.{readChecks, readAnswer, linksIn as fileLinks, nodesIn}
 use Rattle.rules.specs.Replies.{Reply, refuses, grants, releases, answerOf, replyOf}
 use Rattle.rules.specs.Calls.{booksIn, sought, quoteChecks, admitChecks, releaseChecks, quote, admission, release}
-use Rattle.line.specs.Codes.{answerCode, loadCode, readingCode, classCode, fileCode}
+use Rattle.line_codes.specs.Codes.{answerCode, loadCode, readingCode, classCode, fileCode}
 
 -- ---- a list of checks
 -- every check's number is over 0
