@@ -15,11 +15,11 @@ use borrow.Author.Tests.{eq-eqb, ne-eqb, le-leb, lt-leb}
 use Rattle.network.specs.Loops.{iter}
 use Rattle.network.specs.Net.{Net, sum}
 use Rattle.network.specs.Cut.{follow}
-use Rattle.network.specs.Words.{field, netOf}
+use Rattle.network.specs.Words.{field, netOf, Links}
 use Rattle.network.proofs.Loops.{iter-none, iter-done, iter-stays, iter-first}
 use Rattle.network.proofs.Tests.{by-bool, by-test}
 use Rattle.path_words.specs.declared.Leg.{Leg}
-use Rattle.path_words.specs.Forward.{advanced, legOn, legStart, forwarded}
+use Rattle.path_words.specs.Forward.{OnWay, advanced, legOn, legStart, forwarded}
 
 -- ---- one turn
 module _ (n m : ℕ) (links next : List ℕ) (t : ℕ) (w : Leg) (path : List ℕ) where
@@ -38,12 +38,23 @@ module _ (n m : ℕ) (links next : List ℕ) (t : ℕ) (w : Leg) (path : List �
     unfolding advanced netOf
     advance-unlisted h = simp (ne-eqb _ _ away, ← noted-here, le-leb _ _ h)
 
-    -- one link more
-    pub advance-on : (head delay cost : ℕ) → i < m → head ≡ field links i 1 → delay ≡ field links i 2 → cost ≡ field links i 3
-        → Advanced (record { node = head; links = w .links + 1; delay = w .delay + delay; cost = w .cost + cost })
-        (set path (w .links) (getD next (w .node) 0))
-    unfolding advanced legOn netOf
-    advance-on head delay cost h to slow dear = simp (ne-eqb _ _ away, ← noted-here, lt-leb _ _ h, ← to, ← slow, ← dear)
+    -- one link more: a listed link leads to a node and adds a million at most to each sum
+    module _ (k head delay cost : ℕ) where
+      abbrev on : Leg
+      on = record { node = head; links = w .links + 1; delay = w .delay + delay; cost = w .cost + cost }
+
+      pub advance-on : Links n m links → OnWay n k w → i < m → head ≡ field links i 1 → delay ≡ field links i 2 → cost ≡ field links i 3
+          → Advanced on (set path (w .links) (getD next (w .node) 0)) × OnWay n (k + 1) on
+      unfolding advanced legOn netOf
+      advance-on table way h to slow dear = (
+        simp (ne-eqb _ _ away, ← noted-here, lt-leb _ _ h, ← to, ← slow, ← dear),
+        record {
+          node = omega (arith, table .words .to i h);
+          links = omega arith;
+          delay = omega (arith, table .words .delay i h);
+          cost = omega (arith, table .words .cost i h);
+        },
+      )
 
 -- ---- the whole pass
 module _ (g : Net) (next : List ℕ) (t : ℕ) where

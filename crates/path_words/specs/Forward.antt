@@ -1,20 +1,13 @@
 -- The pass from s to t along the noted links: the path's words and its own sums.
 -- Assumes nothing.
 use Prim.Native.Nat.{ℕ, _+_, _*_, _-_, _≤_, _<_}
-use mathlib.Core.Path.{_≡_}
 use mathlib.Core.Bool.{cond, _||_}
 use mathlib.Core.List.{List}
 use lib.Dec.{eqb, leb}
 use lib.ListN.{getD, set}
 use Rattle.network.specs.Loops.{iter}
 use Rattle.network.specs.Net.{Net}
-use Rattle.network.specs.Words.{field}
 use Rattle.path_words.specs.declared.Leg.{Leg}
-
--- the columns hold the links' delays and costs
-pub record Columns (links delay cost : List ℕ) : Type 0 where
-  pub delays : (i : ℕ) → getD delay i 0 ≡ field links i 2
-  pub costs : (i : ℕ) → getD cost i 0 ≡ field links i 3
 
 abbrev pub legStart : ℕ → Leg
 legStart s = record { node = s; links = 0; delay = 0; cost = 0 }

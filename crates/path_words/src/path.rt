@@ -5,7 +5,7 @@ ghost use mathlib.Core.Path.{_≡_};
 ghost use Prim.Native.Nat.{_+_, _≤_, _<_};
 ghost use lib.ListN.{length};
 ghost use Rattle.network.specs.Words.{netOf, Links};
-ghost use Rattle.path_words.specs.Forward.{Columns, OnWay, advanced, forwarded};
+ghost use Rattle.path_words.specs.Forward.{OnWay, advanced, forwarded};
 use crate::Leg;
 use links::link;
 
@@ -14,8 +14,6 @@ fn advance(
     n: usize,
     m: usize,
     links: &[u32],
-    delay: &[u32; 256],
-    cost: &[u32; 256],
     next: &[u32; 32],
     path: &mut [u32],
     t: usize,
@@ -23,7 +21,6 @@ fn advance(
     w: Leg,
 ) -> Leg
     requires { ⌜ Links n m (now links) ⌝ }
-    requires { ⌜ Columns (now links) (now delay) (now cost) ⌝ }
     requires { ⌜ (31 ≤ length (now path)) × (k < 31) × OnWay n k w ⌝ }
     ensures is { λ r. ⌜ (r, now (path .exit)) ≡ advanced (netOf n m (now (links .entry)) []) (now (next .entry)) t (w, now (path .entry)) ⌝ }
     ensures on { λ r. ⌜ OnWay n (k + 1) r ⌝ }
@@ -41,8 +38,8 @@ fn advance(
     Leg {
         node: link::wide(link::word(links, i, link::TO)),
         links: w.links + 1,
-        delay: w.delay + delay[i],
-        cost: w.cost + cost[i],
+        delay: w.delay + link::word(links, i, link::DELAY),
+        cost: w.cost + link::word(links, i, link::COST),
     }
 }
 
@@ -51,15 +48,12 @@ pub fn forward(
     n: usize,
     m: usize,
     links: &[u32],
-    delay: &[u32; 256],
-    cost: &[u32; 256],
     next: &[u32; 32],
     path: &mut [u32],
     s: usize,
     t: usize,
 ) -> Leg
     requires { ⌜ Links n m (now links) ⌝ }
-    requires { ⌜ Columns (now links) (now delay) (now cost) ⌝ }
     requires { ⌜ (31 ≤ length (now path)) × (s < n) ⌝ }
     ensures is { λ r. ⌜ (r, now (path .exit)) ≡ forwarded (netOf n m (now (links .entry)) []) (now (next .entry)) s t (now (path .entry)) ⌝ }
     ensures on { λ r. ⌜ OnWay n 31 r ⌝ }
@@ -71,7 +65,7 @@ pub fn forward(
         cost: 0,
     };
     for k in 0..n - 1 {
-        w = advance(n, m, links, delay, cost, next, path, t, k, w);
+        w = advance(n, m, links, next, path, t, k, w);
     }
     w
 }

@@ -37,15 +37,16 @@ pub net-ends : (n m : ℕ) (links usable : List ℕ) → Links n m links → End
 unfolding netOf
 net-ends n m links usable h = record { tails = h .words .from; heads = h .words .to }
 
--- the notes are the trail's, so the pass is the one along the trail
-pub passes : (p : Reduced) (links scaled table : List ℕ) (s t which : ℕ) (path : List ℕ) {next : List ℕ} {w : Leg} {path₁ : List ℕ}
+-- the notes are the trail's, so the pass is the one along the trail, and an answer with its totals is the grant
+pub passes : (p : Reduced) (links scaled table : List ℕ) (s t which : ℕ) (path : List ℕ) {next : List ℕ} {w : Leg} {path₁ : List ℕ} {a : Answer}
     → next ≡ traced (unflagged p links) (scaledOnly p scaled) table s t .1
     → (w, path₁) ≡ forwarded (unflagged p links) next s t path
-    → (grantOf which w ≡ grantOf which (passed p links scaled table s t path .0)) × (path₁ ≡ passed p links scaled table s t path .1)
+    → a ≡ grantOf which w
+    → (a ≡ grantOf which (passed p links scaled table s t path .0)) × (path₁ ≡ passed p links scaled table s t path .1)
 unfolding passed
-passes p links scaled table s t which path notes pass =
+passes p links scaled table s t which path notes pass told =
     let is = pass ∙ ap (λ (n : List ℕ). forwarded (unflagged p links) n s t path) notes in
-    (ap (λ (z : Leg × List ℕ). grantOf which (z .0)) is, ap (λ (z : Leg × List ℕ). z .1) is)
+    (told ∙ ap (λ (z : Leg × List ℕ). grantOf which (z .0)) is, ap (λ (z : Leg × List ℕ). z .1) is)
 
 module _ (p : Reduced) (links usable kept scaled : List ℕ) (s t : ℕ) (sound : Sound p links usable kept)
     (s-low : s < p .nodes) (t-low : t < p .nodes) (l : List ℕ) (memory : 16384 ≤ length l) where

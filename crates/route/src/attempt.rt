@@ -9,8 +9,6 @@ ghost use Rattle.table.specs.Solver.{Sound, netIn, problemOf};
 ghost use Rattle.route.specs.Answers.{answerOf, grantOf, pathAfter, passed};
 use crate::Answer;
 use crate::Grant;
-use links::link;
-use links::link::column;
 use path_words::path::forward;
 use rounds::rounds::rounds;
 use table::Reduced;
@@ -18,8 +16,8 @@ use table::table::cell;
 use table::table::initialise;
 use trace::trace::trace;
 
-// The path that a finished table holds for t, granted with its own totals. Only they need the links' delays and costs
-// side by side, whichever of the two the problem scales.
+// The path that a finished table holds for t, granted with its own totals: sums of the links' delays and costs as they
+// are, whichever of the two the problem scales.
 fn found(
     work: &[u32],
     path: &mut [u32],
@@ -36,9 +34,7 @@ fn found(
     ensures path { λ _. ⌜ now (path .exit) ≡ passed p (now (links .entry)) (now (scaled .entry)) (now (work .entry)) s t (now (path .entry)) .1 ⌝ }
 {
     let next = trace(work, links, scaled, p, s, t);
-    let delay = column(links, p.links, link::DELAY);
-    let cost = column(links, p.links, link::COST);
-    let w = forward(p.nodes, p.links, links, &delay, &cost, &next, path, s, t);
+    let w = forward(p.nodes, p.links, links, &next, path, s, t);
     Answer::Granted(Grant {
         problem: which,
         delay: w.delay,

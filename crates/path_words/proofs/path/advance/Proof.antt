@@ -1,5 +1,6 @@
 -- `path_words::path::advance` meets its contract: each return is one way through the test of `advanced`, a listed link leads
--- to a node and adds a million at most to each sum. Assumes nothing.
+-- to a node and adds a million at most to each sum. Both sums fit by the ranges of both weights, so that a sum of the
+-- wrong weight is refused for the total. Assumes nothing.
 use borrow.Author.Needs.{needs}
 use native.Mathlib.Omega.{arith}
 use Rattle.path_words.proofs.Forward.{advance-home, advance-unlisted, advance-on}
@@ -19,7 +20,9 @@ wide-requires : tie.Need-wide-requires
 wide-requires c κs = search needs
 
 returns-2 : tie.Need-returns-2
-returns-2 c = (advance-unlisted _ _ _ _ _ _ _ _ (λ e. omega arith) (c .before .wide .ensures) (omega arith), search needs)
+returns-2 c =
+    let link = c .before in
+    (advance-unlisted _ _ _ _ _ _ _ _ (link .before .before .if1 .left) (link .wide .ensures) (c .if2 .taken), search needs)
 
 mul-path : tie.Need-mul-path
 mul-path c = search needs
@@ -39,59 +42,44 @@ word-requires c κs = search needs
 wide-requires-2 : tie.Need-wide-requires-2
 wide-requires-2 c κs = search needs
 
-add-t21 : tie.Need-add-t21
-add-t21 c = search needs
+add-t19 : tie.Need-add-t19
+add-t19 c = search needs
 
-mul-t23 : tie.Need-mul-t23
-mul-t23 c = search needs
+word-requires-2 : tie.Need-word-requires-2
+word-requires-2 c κs = search needs
 
-element-copy-out-t26 : tie.Need-element-copy-out-t26
-element-copy-out-t26 c = search needs
-
-add-t27 : tie.Need-add-t27
-add-t27 c =
+add-t22 : tie.Need-add-t22
+add-t22 c =
     let listed = c .before .before .before .before .before .before in
     let link = listed .before in
     let start = link .before .before .before .before .before .before in
-    let way = start .pre .1 .1 in
     let i = link .wide .result in
-    omega (arith, start .pre .1 .0 .delays i, start .pre .1 .0 .costs i, start .pre .0 .words .delay i (listed .if2 .left), start .pre .0 .words .cost i (listed .if2 .left), way)
+    omega (arith, start .pre .0 .words .delay i (listed .if2 .left), start .pre .0 .words .cost i (listed .if2 .left), start .pre .1 .2)
 
-mul-t28 : tie.Need-mul-t28
-mul-t28 c = search needs
+word-requires-3 : tie.Need-word-requires-3
+word-requires-3 c κs = search needs
 
-element-copy-out-t31 : tie.Need-element-copy-out-t31
-element-copy-out-t31 c = search needs
-
-add-t32 : tie.Need-add-t32
-add-t32 c =
+add-t24 : tie.Need-add-t24
+add-t24 c =
     let listed = c .before .before .before .before .before .before .before .before in
     let link = listed .before in
     let start = link .before .before .before .before .before .before in
-    let way = start .pre .1 .1 in
     let i = link .wide .result in
-    omega (arith, start .pre .1 .0 .delays i, start .pre .1 .0 .costs i, start .pre .0 .words .delay i (listed .if2 .left), start .pre .0 .words .cost i (listed .if2 .left), way)
+    omega (arith, start .pre .0 .words .delay i (listed .if2 .left), start .pre .0 .words .cost i (listed .if2 .left), start .pre .1 .2)
 
 same-length : tie.Need-same-length
 same-length c = search needs
 
 returns-3 : tie.Need-returns-3
 returns-3 c =
-    let listed = c .before .before .before .before .before .before .before .before in
+    let delayed = c .before .before .before in
+    let on = delayed .before .before in
+    let listed = on .before .before .before in
     let link = listed .before in
-    let start = link .before .before .before .before .before .before in
-    let way = start .pre .1 .1 in
-    let i = link .wide .result in
-    let columns = start .pre .1 .0 in
-    let words = start .pre .0 .words in (
-      advance-on _ _ _ _ _ _ _ _ (λ e. omega arith) (link .wide .ensures) _ _ _ (listed .if2 .left) (omega arith) (columns .delays i) (columns .costs i),
-      record {
-        node = omega (arith, words .to i (listed .if2 .left));
-        links = omega arith;
-        delay = omega (arith, columns .delays i, words .delay i (listed .if2 .left), way);
-        cost = omega (arith, columns .costs i, words .cost i (listed .if2 .left), way);
-      },
-    )
+    let away = link .before .before in
+    let start = away .before .before .before .before in
+    advance-on _ _ _ _ _ _ _ _ (away .if1 .left) (link .wide .ensures) _ (on .wide2 .result) (delayed .word2 .result) (c .before .word3 .result) (start .pre .0) (start .pre .1 .2)
+    (listed .if2 .left) (omega arith) (omega arith) (omega arith)
 
 pub advance-spec : {M : Type 1} → statement M
 advance-spec =
@@ -108,12 +96,10 @@ advance-spec =
     slice-write-path
     word-requires
     wide-requires-2
-    add-t21
-    mul-t23
-    element-copy-out-t26
-    add-t27
-    mul-t28
-    element-copy-out-t31
-    add-t32
+    add-t19
+    word-requires-2
+    add-t22
+    word-requires-3
+    add-t24
     same-length
     returns-3)

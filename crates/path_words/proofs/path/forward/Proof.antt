@@ -14,11 +14,11 @@ use Rattle.path_words.proofs.path.forward.Statement.{statement}
 use Rattle.path_words.proofs.path.forward.Tie as tie
 
 abbrev Inv-loop : tie.InvT-loop
-Inv-loop n m links delay cost next path₀ s t w₀ k₀ k-end path w k =
+Inv-loop n m links next path₀ s t w₀ k₀ k-end path w k =
     ((w, path) ≡ iter (λ _. advanced (netOf n m links []) next t) k (w₀, path₀)) × (length path ≡ length path₀) × (k ≤ k-end) × OnWay n k w
 
 abbrev μ-loop : tie.MeasureT-loop
-μ-loop n m links delay cost next path₀ s t w₀ k₀ k-end path w k = k-end - k
+μ-loop n m links next path₀ s t w₀ k₀ k-end path w k = k-end - k
 
 sub-k-end : tie.Need-sub-k-end Inv-loop μ-loop
 sub-k-end c = search needs
@@ -30,7 +30,7 @@ advance-requires : tie.Need-advance-requires Inv-loop μ-loop
 advance-requires c κs =
     let i = c .before .before .loop .inv in
     let start = c .before .before .before .before .before in
-    (start .pre .0, (start .pre .1 .0, (omega arith, omega arith, i .3)))
+    (start .pre .0, (omega arith, omega arith, i .3))
 
 add-k : tie.Need-add-k Inv-loop μ-loop
 add-k c = search needs
@@ -42,7 +42,7 @@ loop-again : tie.Need-loop-again Inv-loop μ-loop
 loop-again c =
     let i = c .before .before .before .before .before .loop .inv in
     let r = c .before .before .advance in
-    (iter-more _ _ _ (i .0) (r .ensures .0), r .kept .1 .1 .1 .1 .1 .1 .0 ∙ i .1, search needs, r .ensures .1)
+    (iter-more _ _ _ (i .0) (r .ensures .0), r .kept .1 .1 .1 .1 .0 ∙ i .1, search needs, r .ensures .1)
 
 same-length : tie.Need-same-length Inv-loop μ-loop
 same-length c = c .before .loop .inv .1
