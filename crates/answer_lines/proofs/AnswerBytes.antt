@@ -6,7 +6,7 @@ use mathlib.Core.List.{List, [], _∷_, _++_}
 use native.Mathlib.Nat.{zero-add}
 use lib.ListN.{length, take}
 use lib.Seq.{sets}
-use Rattle.route.specs.declared.Grant.{Grant}
+use Rattle.attempt.specs.declared.Grant.{Grant}
 use Rattle.rules.specs.declared.Answer.{Answer}
 use Rattle.rules.specs.declared.Answer.the-variants.{Refused, Granted, Released}
 use Rattle.text_format.specs.Fields.{fields}

@@ -6,11 +6,11 @@ ghost use Prim.Native.Nat.{_+_, _≤_};
 ghost use lib.ListN.{length};
 ghost use lib.Seq.{sets};
 ghost use Rattle.class_format.specs.Lines.{line, requestOf, quoteLine, classLine, lines};
+use attempt::Grant;
 use classes::Service;
 use links::link;
 use network::Request;
 use quotes::quote::quote;
-use route::Grant;
 use rules::Answer;
 
 // Class, 0, number.

@@ -21,10 +21,10 @@ use Rattle.ebf.specs.Solve.{solve}
 use Rattle.ebf.specs.Search.{outcomeOf, orElse, tried, search}
 use Rattle.table.specs.declared.Reduced.{Reduced}
 use Rattle.table.specs.Solver.{Sound, problemOf}
-use Rattle.route.specs.declared.Answer.{Answer}
-use Rattle.route.specs.declared.Answer.the-variants.{NoPath, NoSolution}
+use Rattle.attempt.specs.declared.Answer.{Answer}
+use Rattle.attempt.specs.declared.Answer.the-variants.{NoPath, NoSolution}
 use Rattle.route.specs.declared.Roles.{Roles}
-use Rattle.route.specs.Answers.{answerOf, pathAfter}
+use Rattle.attempt.specs.Answers.{answerOf, pathAfter}
 use Rattle.route.specs.Ready.{Ready}
 use Rattle.route.specs.Roles.{Weights, rolesOne, rolesTwo, problemBy, outcomeBy}
 

@@ -18,7 +18,7 @@ use Rattle.ebf.proofs.Same.{search-depends}
 use Rattle.ebf.proofs.Search.{search-finds}
 use Rattle.route.specs.Ready.{Ready}
 use Rattle.route.specs.Result.{Searchable, Unsolved, GrantedByOne, GrantedByTwo, Result}
-use Rattle.route.proofs.Outcomes.{net-ends}
+use Rattle.attempt.proofs.Outcomes.{net-ends}
 
 module _ (g : Net) (r : Request) where
   -- one problem's number says which problem granted

@@ -1,4 +1,3 @@
 pub mod Ready
-pub mod Answers
 pub mod Roles
 pub mod Result

@@ -6,24 +6,16 @@
 ghost use mathlib.Core.Path.{_≡_};
 ghost use Rattle.network.specs.Words.{netOf};
 ghost use Rattle.ebf.specs.Search.{search};
-ghost use Rattle.route.specs.Answers.{answerOf, pathAfter};
+ghost use Rattle.attempt.specs.Answers.{answerOf, pathAfter};
 ghost use Rattle.route.specs.Ready.{Ready};
 
-mod attempt;
 mod problems;
 
 use crate::problems::both_problems;
+use attempt::Answer;
 use distance::distance::distance;
 use links::link;
 use network::Request;
-
-// A granted path: the problem that granted it, 1 or 2, its delay, its cost and its number of links.
-pub struct Grant {
-    pub problem: u32,
-    pub delay: u32,
-    pub cost: u32,
-    pub links: u32,
-}
 
 // The roles of a link's two weights in problem `which`, 1 or 2: the weight in word `kept` of each link stays within its
 // bound, and the weight in word `other` is scaled by its own.
@@ -33,15 +25,6 @@ pub struct Roles {
     pub kept_bound: u32,
     pub other: usize,
     pub other_bound: u32,
-}
-
-// What a search answers.
-pub enum Answer {
-    // No usable path exists.
-    NoPath,
-    // Usable paths exist, and none solves either problem.
-    NoSolution,
-    Granted(Grant),
 }
 
 // Searches for a path for request `r` among `m` links and `n` nodes; a link whose flag in `usable` is 1 is usable.

@@ -13,8 +13,8 @@ use lib.ListN.{length, drop, List·getD-append}
 use Rattle.network.specs.Net.{Net}
 use Rattle.network.specs.Reduce.{Outcome, no-path, no-solution, granted}
 use Rattle.network.specs.declared.Request.{Request}
-use Rattle.route.specs.declared.Grant.{Grant}
-use Rattle.route.specs.Answers as route
+use Rattle.attempt.specs.declared.Grant.{Grant}
+use Rattle.attempt.specs.Answers as route
 use Rattle.area.specs.Station.{nodesIn, tableIn, station, wordsAt}
 use Rattle.area.specs.Books.{books}
 use Rattle.area.specs.Formed.{WellFormed, wellFormed}

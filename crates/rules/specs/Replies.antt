@@ -5,8 +5,8 @@ use mathlib.Core.List.{List, _++_}
 use lib.ListN.{length, drop}
 use Rattle.network.specs.Net.{Net, sum}
 use Rattle.network.specs.Reduce.{Outcome, no-path, no-solution, granted}
-use Rattle.route.specs.declared.Answer.{Answer as Found}
-use Rattle.route.specs.declared.Answer.the-variants as found
+use Rattle.attempt.specs.declared.Answer.{Answer as Found}
+use Rattle.attempt.specs.declared.Answer.the-variants as found
 use Rattle.rules.specs.declared.Answer.{Answer}
 use Rattle.rules.specs.declared.Answer.the-variants.{Refused, Granted, Released}
 

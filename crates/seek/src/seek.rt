@@ -10,13 +10,13 @@ use rules::Answer;
 use station::usable::usable;
 
 // The search's answer with document 01's numbers.
-fn numbered(found: route::Answer) -> Answer
+fn numbered(found: attempt::Answer) -> Answer
     ensures { λ a. ⌜ a ≡ told found ⌝ }
 {
     match found {
-        route::Answer::NoPath => Answer::Refused(9),
-        route::Answer::NoSolution => Answer::Refused(10),
-        route::Answer::Granted(g) => Answer::Granted(g),
+        attempt::Answer::NoPath => Answer::Refused(9),
+        attempt::Answer::NoSolution => Answer::Refused(10),
+        attempt::Answer::Granted(g) => Answer::Granted(g),
     }
 }
 

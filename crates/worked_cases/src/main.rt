@@ -8,7 +8,7 @@ use cases::NET_B;
 use libc::STDOUT_FILENO;
 use loading::load::load;
 use network::Request;
-use quotes::quote::quote;
+use quotes::quote;
 use station::reads;
 
 // Loads a link table into the area.
@@ -31,7 +31,7 @@ fn request(target: u32, units: u32, delay: u32, cost: u32, coefficient: u32) -> 
 fn quote_request(name: &[u8], area: &[u32; 3459], work: &mut [u32; 16384], r: Request) {
     let mut path: [u32; 31] = [99; 31];
     io::write_all(STDOUT_FILENO, name);
-    let answer = quote(area, work, &mut path, r);
+    let answer = quote::quote(area, work, &mut path, r);
     answer_lines::write_answer(answer, &path);
 }
 

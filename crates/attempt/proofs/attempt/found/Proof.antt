@@ -2,9 +2,9 @@
 -- Assumes nothing.
 use native.Mathlib.Omega.{arith}
 use borrow.Author.Needs.{needs}
-use Rattle.route.proofs.Outcomes.{passes}
-use Rattle.route.proofs.attempt.found.Statement.{statement}
-use Rattle.route.proofs.attempt.found.Tie as tie
+use Rattle.attempt.proofs.Outcomes.{passes}
+use Rattle.attempt.proofs.attempt.found.Statement.{statement}
+use Rattle.attempt.proofs.attempt.found.Tie as tie
 
 trace-requires : tie.Need-trace-requires
 trace-requires c κs =

@@ -2,9 +2,9 @@
 -- Assumes nothing.
 use mathlib.Core.Path.{_∙_}
 use native.Mathlib.Omega.{arith}
-use Rattle.route.proofs.Outcomes.{table-is, table-bounded, answers-none, answers-path}
-use Rattle.route.proofs.attempt.attempt.Statement.{statement}
-use Rattle.route.proofs.attempt.attempt.Tie as tie
+use Rattle.attempt.proofs.Outcomes.{table-is, table-bounded, answers-none, answers-path}
+use Rattle.attempt.proofs.attempt.attempt.Statement.{statement}
+use Rattle.attempt.proofs.attempt.attempt.Tie as tie
 
 initialise-requires : tie.Need-initialise-requires
 initialise-requires c κs =

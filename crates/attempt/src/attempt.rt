@@ -6,7 +6,7 @@ ghost use Rattle.network.specs.Words.{Links};
 ghost use Rattle.ebf.specs.Solve.{solve};
 ghost use Rattle.ebf.specs.Search.{outcomeOf};
 ghost use Rattle.table.specs.Solver.{Sound, netIn, problemOf};
-ghost use Rattle.route.specs.Answers.{answerOf, grantOf, pathAfter, passed};
+ghost use Rattle.attempt.specs.Answers.{answerOf, grantOf, pathAfter, passed};
 use crate::Answer;
 use crate::Grant;
 use path_words::path::forward;

@@ -21,12 +21,12 @@ use Rattle.ebf.proofs.Sound.{initialised-good}
 use Rattle.ebf.proofs.Memory.{any-memory-solves}
 use Rattle.path_words.specs.declared.Leg.{Leg}
 use Rattle.table.specs.declared.Reduced.{Reduced}
-use Rattle.route.specs.declared.Answer.{Answer}
-use Rattle.route.specs.declared.Answer.the-variants.{NoSolution}
+use Rattle.attempt.specs.declared.Answer.{Answer}
+use Rattle.attempt.specs.declared.Answer.the-variants.{NoSolution}
 use Rattle.network.specs.Words.{Links}
 use Rattle.table.specs.Solver.{Sound, netIn, problemOf, unflagged, scaledOnly, Bounded}
 use Rattle.path_words.specs.Forward.{forwarded}
-use Rattle.route.specs.Answers.{answerOf, grantOf, pathAfter, passed}
+use Rattle.attempt.specs.Answers.{answerOf, grantOf, pathAfter, passed}
 use Rattle.table.proofs.Rows.{cells-below}
 use Rattle.trace.proofs.Unflagged.{traced-unflagged}
 use Rattle.path_words.proofs.Unflagged.{forwarded-unflagged}
