@@ -19,9 +19,8 @@ ghost use Rattle.cases.specs.Cases.{linksA};
 ghost use Rattle.call_list.specs.Calls.{calls};
 
 mod bookings;
-mod kinds;
-mod list;
 
+use call_runs::list::every_call;
 use cases::NET_A;
 use libc::STDOUT_FILENO;
 use loading::load::load;
@@ -41,7 +40,7 @@ fn run(struck: bool, area: &mut [u32; 3459])
     ensures area { λ _. ⌜ now (area .exit) ≡ areaAtEnd (areaLoaded (now (area .entry)) 4 linksA) (calls struck) ⌝ }
 {
     load_net(area);
-    list::every_call(struck, area);
+    every_call(struck, area);
     bookings::circuits_held(area);
     bookings::every_free(area);
 }

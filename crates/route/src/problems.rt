@@ -12,8 +12,8 @@ use attempt::attempt::attempt;
 use links::link;
 use links::link::column;
 use network::Request;
+use scaled_weights::weights::scaled_column;
 use table::Reduced;
-use table::weights::scaled_column;
 
 // The answer of one problem of request `r` at `x`, with the weights in the roles `w`. Both problems are this one: the
 // roles alone exchange the weights.

@@ -1,8 +1,7 @@
-// What the rounds of the extended Bellman-Ford search work on: the table d[v, k] in work memory and the links' scaled
-// weights. Line numbers are those of the paper. `relaxation`, `trace` and `route` stand on it; what its functions require
+// What the rounds of the extended Bellman-Ford search work on: the table d[v, k] in work memory, and the problem that a
+// table is for. Line numbers are those of the paper. `relaxation`, `trace` and `route` stand on it; what its functions require
 // follows from what `route::search` requires.
 pub mod table;
-pub mod weights;
 
 // The numbers of one reduced problem: how many nodes and links, the bound x of the scaled weight and the bound
 // of the kept weight.

@@ -1,9 +1,9 @@
--- `history::kinds::is_struck` meets its contract, by the run.
+-- `call_runs::kinds::is_struck` meets its contract, by the run.
 -- Assumes nothing.
 use mathlib.Core.Path.{_∙_}
 use borrow.Author.Needs.{needs}
-use Rattle.history.proofs.kinds.is_struck.Statement.{statement}
-use Rattle.history.proofs.kinds.is_struck.Tie as tie
+use Rattle.call_runs.proofs.kinds.is_struck.Statement.{statement}
+use Rattle.call_runs.proofs.kinds.is_struck.Tie as tie
 
 is-quote-requires : tie.Need-is-quote-requires
 is-quote-requires c κs = search needs

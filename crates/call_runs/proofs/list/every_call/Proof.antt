@@ -1,4 +1,4 @@
--- `history::list::every_call` meets its contract. What the calls that are left do to the area at hand is what the whole list
+-- `call_runs::list::every_call` meets its contract. What the calls that are left do to the area at hand is what the whole list
 -- does to the first one.
 -- Assumes nothing.
 use Prim.Native.Nat.{_-_, _≤_}
@@ -7,8 +7,8 @@ use borrow.Author.Needs.{needs}
 use Rattle.ledger.specs.History.{areaAtEnd}
 use Rattle.call_list.specs.Calls.{callsFrom, calls}
 use Rattle.call_list.proofs.CallCases.{fewer, none-left}
-use Rattle.history.proofs.list.every_call.Statement.{statement}
-use Rattle.history.proofs.list.every_call.Tie as tie
+use Rattle.call_runs.proofs.list.every_call.Statement.{statement}
+use Rattle.call_runs.proofs.list.every_call.Tie as tie
 
 abbrev Inv-loop : tie.InvT-loop
 Inv-loop struck area₀ k₀ area k = (areaAtEnd area (callsFrom struck k (25 - k)) ≡ areaAtEnd area₀ (calls struck)) × (k ≤ 25)

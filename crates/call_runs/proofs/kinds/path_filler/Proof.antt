@@ -1,8 +1,8 @@
--- `history::kinds::path_filler` meets its contract, by the run.
+-- `call_runs::kinds::path_filler` meets its contract, by the run.
 -- Assumes nothing.
 use Rattle.call_list.specs.Calls.{filler}
-use Rattle.history.proofs.kinds.path_filler.Statement.{statement}
-use Rattle.history.proofs.kinds.path_filler.Tie as tie
+use Rattle.call_runs.proofs.kinds.path_filler.Statement.{statement}
+use Rattle.call_runs.proofs.kinds.path_filler.Tie as tie
 
 returns : tie.Need-returns
 unfolding filler

@@ -1,10 +1,10 @@
--- `history::list::answered` meets its contract: each kind's call, by what the call itself ensures.
+-- `call_runs::list::answered` meets its contract: each kind's call, by what the call itself ensures.
 -- Assumes nothing.
 use mathlib.Core.Path.{sym, _∙_}
 use borrow.Author.Needs.{needs}
 use Rattle.call_list.proofs.CallCases.{quoted, released, admitted}
-use Rattle.history.proofs.list.answered.Statement.{statement}
-use Rattle.history.proofs.list.answered.Tie as tie
+use Rattle.call_runs.proofs.list.answered.Statement.{statement}
+use Rattle.call_runs.proofs.list.answered.Tie as tie
 
 array-read-kind : tie.Need-array-read-kind
 array-read-kind c = search needs

@@ -1,8 +1,8 @@
--- `history::kinds::is_quote` meets its contract, test by test.
+-- `call_runs::kinds::is_quote` meets its contract, test by test.
 -- Assumes nothing.
 use borrow.Author.Tests.{eq-eqb, ne-eqb}
-use Rattle.history.proofs.kinds.is_quote.Statement.{statement}
-use Rattle.history.proofs.kinds.is_quote.Tie as tie
+use Rattle.call_runs.proofs.kinds.is_quote.Statement.{statement}
+use Rattle.call_runs.proofs.kinds.is_quote.Tie as tie
 
 returns : tie.Need-returns
 returns c = simp (eq-eqb (c .before .args .kind) 0 (c .if1 .taken))

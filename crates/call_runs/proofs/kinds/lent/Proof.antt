@@ -1,9 +1,9 @@
--- `history::kinds::lent` meets its contract, by the kind.
+-- `call_runs::kinds::lent` meets its contract, by the kind.
 -- Assumes nothing.
 use native.Mathlib.Omega.{arith}
 use borrow.Author.Tests.{eq-eqb, ne-eqb}
-use Rattle.history.proofs.kinds.lent.Statement.{statement}
-use Rattle.history.proofs.kinds.lent.Tie as tie
+use Rattle.call_runs.proofs.kinds.lent.Statement.{statement}
+use Rattle.call_runs.proofs.kinds.lent.Tie as tie
 
 returns : tie.Need-returns
 returns c = let a = c .before .args in (simp (eq-eqb (a .kind) (a .short) (c .if1 .taken)), omega arith)

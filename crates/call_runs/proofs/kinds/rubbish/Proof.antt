@@ -1,9 +1,9 @@
--- `history::kinds::rubbish` meets its contract, by the run.
+-- `call_runs::kinds::rubbish` meets its contract, by the run.
 -- Assumes nothing.
 use borrow.Author.Needs.{needs}
 use Rattle.call_list.specs.Calls.{rubbish}
-use Rattle.history.proofs.kinds.rubbish.Statement.{statement}
-use Rattle.history.proofs.kinds.rubbish.Tie as tie
+use Rattle.call_runs.proofs.kinds.rubbish.Statement.{statement}
+use Rattle.call_runs.proofs.kinds.rubbish.Tie as tie
 
 sub-result : tie.Need-sub-result
 sub-result c = search needs

@@ -134,7 +134,7 @@ fn unless_struck(struck: bool, area: &mut [u32; 3459], k: u32)
 }
 
 // The calls of the whole list.
-pub(crate) fn every_call(struck: bool, area: &mut [u32; 3459])
+pub fn every_call(struck: bool, area: &mut [u32; 3459])
     ensures { λ _. ⌜ now (area .exit) ≡ areaAtEnd (now (area .entry)) (calls struck) ⌝ }
 {
     for k in 0..25 {

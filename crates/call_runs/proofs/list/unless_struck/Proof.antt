@@ -1,10 +1,10 @@
--- `history::list::unless_struck` meets its contract: it passes over a row just where the list does.
+-- `call_runs::list::unless_struck` meets its contract: it passes over a row just where the list does.
 -- Assumes nothing.
 use mathlib.Core.Path.{sym, _∙_}
 use borrow.Author.Needs.{needs}
 use Rattle.call_list.proofs.CallCases.{skipped, called}
-use Rattle.history.proofs.list.unless_struck.Statement.{statement}
-use Rattle.history.proofs.list.unless_struck.Tie as tie
+use Rattle.call_runs.proofs.list.unless_struck.Statement.{statement}
+use Rattle.call_runs.proofs.list.unless_struck.Tie as tie
 
 row-at-requires : tie.Need-row-at-requires
 row-at-requires c κs = search needs

@@ -1,4 +1,4 @@
--- `table::weights::scaled_column` meets its contract: the loop fills the column entry by entry, and past the table's end a
+-- `scaled_weights::weights::scaled_column` meets its contract: the loop fills the column entry by entry, and past the table's end a
 -- weight of 0 is scaled to 0. Assumes nothing.
 use mathlib.Core.Path.{_≡_, ap, _∙_}
 use Prim.Native.Nat.{ℕ, _-_, _≤_, _<_}
@@ -8,8 +8,8 @@ use borrow.Author.Needs.{needs}
 use Rattle.network.specs.Scale.{scaled}
 use Rattle.network.specs.Words.{field}
 use Rattle.network.proofs.Columns.{Filled, filled-none, filled-more, filled-done, past-links}
-use Rattle.table.proofs.weights.scaled_column.Statement.{statement}
-use Rattle.table.proofs.weights.scaled_column.Tie as tie
+use Rattle.scaled_weights.proofs.weights.scaled_column.Statement.{statement}
+use Rattle.scaled_weights.proofs.weights.scaled_column.Tie as tie
 
 -- past the table's end
 scaled-none : (x bound weight : ℕ) → 0 < bound → weight ≡ 0 → scaled x bound weight ≡ 0

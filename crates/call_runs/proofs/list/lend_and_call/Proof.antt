@@ -1,4 +1,4 @@
--- `history::list::lend_and_call` meets its contract: the parts that it lends are the words that the row's kind is lent, since no kind
+-- `call_runs::list::lend_and_call` meets its contract: the parts that it lends are the words that the row's kind is lent, since no kind
 -- is lent more than the whole.
 -- Assumes nothing.
 use mathlib.Core.Path.{sym}
@@ -7,8 +7,8 @@ use borrow.Author.Needs.{needs}
 use lib.Seq.{length-take-le}
 use Rattle.call_list.specs.Calls.{workLent, pathLent}
 use Rattle.call_list.proofs.CallCases.{work-as, path-as, lent-as}
-use Rattle.history.proofs.list.lend_and_call.Statement.{statement}
-use Rattle.history.proofs.list.lend_and_call.Tie as tie
+use Rattle.call_runs.proofs.list.lend_and_call.Statement.{statement}
+use Rattle.call_runs.proofs.list.lend_and_call.Tie as tie
 
 rubbish-requires : tie.Need-rubbish-requires
 rubbish-requires c κs = search needs
