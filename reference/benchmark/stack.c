@@ -30,8 +30,9 @@ static uint32_t answer[4];
 static uint32_t code;
 static uint32_t bound;
 
-/* Eight links of delay 10 from each node to the next and eight more from the first. Their costs are 10, but 11 and 9 at
-   the first two nodes: with both bounds 310 problem one fails by one unit of scaled cost and problem two does not. */
+/* Eight links of delay 10 from each node to the next, and a ninth from each of the first eight. Their costs are 10, but
+   11 and 9 at the first two nodes: with both bounds 310 problem one fails by one unit of scaled cost and problem two
+   does not. */
 static void make_links(void)
 {
     for (uint32_t i = 0; i < LINE_MOST_LINKS; i++) {

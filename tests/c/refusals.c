@@ -149,7 +149,7 @@ static void damaged_area(void)
     refused("free units", line_free_units(area, a, 0, answer), LINE_AREA_NOT_WELL_FORMED);
 }
 
-/* 64 circuits of one unit each over links of capacity 64: the 65th is refused before any search. */
+/* 64 circuits of one unit each over one link of capacity 64: the 65th is refused before any search. */
 static void full_area(void)
 {
     const size_t a = LINE_AREA_WORDS, w = LINE_WORK_WORDS, p = LINE_PATH_WORDS;

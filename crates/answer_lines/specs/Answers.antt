@@ -1,21 +1,50 @@
--- What an answer says on its line, as bytes in ASCII: the contracts of `src/lib.rt` cite it.
+-- What a load, a call and a reading answer, and a path, as the rest of a line in ASCII, up to its newline (byte 10):
+-- the contracts of `src/lib.rt` cite it.
 -- Assumes nothing.
 use Prim.Native.Nat.{ℕ}
 use mathlib.Core.List.{List, [], _∷_, _++_}
 use lib.ListN.{take}
-use Rattle.attempt.specs.declared.Grant.{Grant}
+use Rattle.network.specs.declared.Grant.{Grant}
+use Rattle.loading.specs.declared.Loading.{Loading}
+use Rattle.loading.specs.declared.Loading.the-variants as loading
 use Rattle.rules.specs.declared.Answer.{Answer}
-use Rattle.rules.specs.declared.Answer.the-variants.{Refused, Granted, Released}
+use Rattle.rules.specs.declared.Answer.the-variants as answer
+use Rattle.station.specs.declared.Reading.{Reading}
+use Rattle.station.specs.declared.Reading.the-variants as reading
 use Rattle.text_format.specs.Fields.{fields}
 
--- problem, delay, cost and the path's links, which are the first words of the path buffer
-unfoldable pub grantText : Grant → List ℕ → List ℕ
+-- a field for each of these numbers, and the newline
+unfoldable pub lineText : List ℕ → List ℕ
 unfolding fields
-grantText g buffer = fields (g .problem ∷ g .delay ∷ g .cost ∷ []) ++ fields (take (g .links) buffer)
+lineText numbers = fields numbers ++ 10 ∷ []
 
--- a refusal: 0 and its number; a release: a space and `released`
+-- 0 and the refusal's number
+abbrev pub refusedText : ℕ → List ℕ
+refusedText k = lineText (0 ∷ k ∷ [])
+
+-- the path's links, which are the first words of the path buffer
+abbrev pub pathText : ℕ → List ℕ → List ℕ
+pathText links buffer = lineText (take links buffer)
+
+-- problem, delay, cost and the path
+unfoldable pub grantText : Grant → List ℕ → List ℕ
+unfolding fields lineText
+grantText g buffer = fields (g .problem ∷ g .delay ∷ g .cost ∷ []) ++ pathText (g .links) buffer
+
+-- a release: a space and `released`
 unfoldable pub answerText : Answer → List ℕ → List ℕ
-unfolding grantText
-answerText (Refused k) buffer = fields (0 ∷ k ∷ [])
-answerText (Granted g) buffer = grantText g buffer
-answerText Released buffer = 32 ∷ 114 ∷ 101 ∷ 108 ∷ 101 ∷ 97 ∷ 115 ∷ 101 ∷ 100 ∷ []
+unfolding lineText grantText
+answerText (answer.Refused k) buffer = refusedText k
+answerText (answer.Granted g) buffer = grantText g buffer
+answerText answer.Released buffer = 32 ∷ 114 ∷ 101 ∷ 108 ∷ 101 ∷ 97 ∷ 115 ∷ 101 ∷ 100 ∷ 10 ∷ []
+
+unfoldable pub readingText : Reading → List ℕ
+unfolding lineText
+readingText (reading.Refused k) = refusedText k
+readingText (reading.Value v) = lineText (v ∷ [])
+
+-- a load has a line of its own, so no space stands before its 0, or it is `loaded`
+unfoldable pub loadingText : Loading → List ℕ
+unfolding lineText
+loadingText (loading.Refused k) = 48 ∷ lineText (k ∷ [])
+loadingText loading.Loaded = 108 ∷ 111 ∷ 97 ∷ 100 ∷ 101 ∷ 100 ∷ 10 ∷ []

@@ -1,20 +1,40 @@
-// What a load, a call and a reading answer, as the rest of a line behind what the line is about: 0 and the refusal's
-// number; problem, delay, cost and links; or a word. Programs that print what the calls answer use it. The path buffer of
-// a call has at most 31 words that a grant uses, so 34 fields are the most: 374 bytes.
+// What a load, a call and a reading answer, and a path, as text: the rest of a line behind what the line is about, with
+// its newline. Each function puts its bytes into a lent slice from a place on, and answers the place behind them, as
+// those of `text` do; a field has at most eleven bytes. The programs that print what the calls answer write the bytes.
 ghost use mathlib.Core.Path.{_≡_};
-ghost use Prim.Native.Nat.{_≤_};
+ghost use Prim.Native.Nat.{_+_, _*_, _≤_};
 ghost use lib.ListN.{length, take};
 ghost use lib.Seq.{sets};
-ghost use Rattle.answer_lines.specs.Answers.{grantText, answerText};
-use attempt::Grant;
-use libc::STDOUT_FILENO;
+ghost use Rattle.answer_lines.specs.Answers.{lineText, refusedText, pathText, grantText, answerText, readingText, loadingText};
 use links::link;
 use loading::Loading;
+use network::Grant;
 use rules::Answer;
 use station::Reading;
-use station::reads;
 
-// A path: as many of the first words as there are links.
+// A field for each of these numbers, and the newline.
+fn put_line(text: &mut [u8], at: usize, numbers: &[u32]) -> usize
+    requires { ⌜ at + 11 * length (now numbers) + 1 ≤ length (now text) ⌝ }
+    ensures end { λ r. ⌜ r ≡ at + length (lineText (now (numbers .entry))) ⌝ }
+    ensures most { λ r. ⌜ r ≤ at + 11 * length (now (numbers .entry)) + 1 ⌝ }
+    ensures text { λ _. ⌜ now (text .exit) ≡ sets (now (text .entry)) at (lineText (now (numbers .entry))) ⌝ }
+{
+    let end = text::put_fields(text, at, numbers);
+    text::put(text, end, b"\n")
+}
+
+// 0 and the refusal's number.
+fn put_refused(text: &mut [u8], at: usize, k: u32) -> usize
+    requires { ⌜ at + 23 ≤ length (now text) ⌝ }
+    ensures end { λ r. ⌜ r ≡ at + length (refusedText k) ⌝ }
+    ensures most { λ r. ⌜ r ≤ at + 23 ⌝ }
+    ensures text { λ _. ⌜ now (text .exit) ≡ sets (now (text .entry)) at (refusedText k) ⌝ }
+{
+    let numbers = [0, k];
+    put_line(text, at, &numbers)
+}
+
+// A path's words: as many of the first as there are links.
 fn path_told(words: &[u32], links: u32) -> &[u32]
     ensures { λ r. ⌜ now r ≡ take links (now (words .entry)) ⌝ }
     ensures { λ r. ⌜ length (now r) ≤ length (now (words .entry)) ⌝ }
@@ -26,99 +46,71 @@ fn path_told(words: &[u32], links: u32) -> &[u32]
     &words[..l]
 }
 
-fn put_granted(text: &mut [u8], g: Grant, path: &[u32]) -> usize
-    requires { ⌜ (374 ≤ length (now text)) × (length (now path) ≤ 31) ⌝ }
-    ensures end { λ r. ⌜ (r ≡ length (grantText g (now (path .entry)))) × (r ≤ 374) ⌝ }
-    ensures text { λ _. ⌜ now (text .exit) ≡ sets (now (text .entry)) 0 (grantText g (now (path .entry))) ⌝ }
+// The links of a path that stands in the first of these words.
+pub fn put_path(text: &mut [u8], at: usize, words: &[u32], links: u32) -> usize
+    requires { ⌜ at + 11 * length (now words) + 1 ≤ length (now text) ⌝ }
+    ensures end { λ r. ⌜ r ≡ at + length (pathText links (now (words .entry))) ⌝ }
+    ensures most { λ r. ⌜ r ≤ at + 11 * length (now (words .entry)) + 1 ⌝ }
+    ensures text { λ _. ⌜ now (text .exit) ≡ sets (now (text .entry)) at (pathText links (now (words .entry))) ⌝ }
+{
+    put_line(text, at, path_told(words, links))
+}
+
+// Problem, delay, cost and the path.
+fn put_granted(text: &mut [u8], at: usize, g: Grant, path: &[u32]) -> usize
+    requires { ⌜ at + 11 * length (now path) + 34 ≤ length (now text) ⌝ }
+    ensures end { λ r. ⌜ r ≡ at + length (grantText g (now (path .entry))) ⌝ }
+    ensures most { λ r. ⌜ r ≤ at + 11 * length (now (path .entry)) + 34 ⌝ }
+    ensures text { λ _. ⌜ now (text .exit) ≡ sets (now (text .entry)) at (grantText g (now (path .entry))) ⌝ }
 {
     let numbers = [g.problem, g.delay, g.cost];
-    let end = text::put_fields(text, 0, &numbers);
-    text::put_fields(text, end, path_told(path, g.links))
+    let end = text::put_fields(text, at, &numbers);
+    put_path(text, end, path, g.links)
 }
 
-fn put_answer(text: &mut [u8], answer: Answer, path: &[u32]) -> usize
-    requires { ⌜ (374 ≤ length (now text)) × (length (now path) ≤ 31) ⌝ }
-    ensures end { λ r. ⌜ (r ≡ length (answerText answer (now (path .entry)))) × (r ≤ 374) ⌝ }
-    ensures text { λ _. ⌜ now (text .exit) ≡ sets (now (text .entry)) 0 (answerText answer (now (path .entry))) ⌝ }
+// What a call answered, with the words of its path buffer.
+pub fn put_answer(text: &mut [u8], at: usize, answer: Answer, path: &[u32]) -> usize
+    requires { ⌜ at + 11 * length (now path) + 34 ≤ length (now text) ⌝ }
+    ensures end { λ r. ⌜ r ≡ at + length (answerText answer (now (path .entry))) ⌝ }
+    ensures most { λ r. ⌜ r ≤ at + 11 * length (now (path .entry)) + 34 ⌝ }
+    ensures text { λ _. ⌜ now (text .exit) ≡ sets (now (text .entry)) at (answerText answer (now (path .entry))) ⌝ }
 {
     match answer {
-        Answer::Refused(k) => {
-            let numbers = [0, k];
-            text::put_fields(text, 0, &numbers)
+        Answer::Refused(k) => put_refused(text, at, k),
+        Answer::Granted(g) => put_granted(text, at, g, path),
+        Answer::Released => text::put(text, at, b" released\n"),
+    }
+}
+
+// What a listing or a question for free units answered.
+pub fn put_reading(text: &mut [u8], at: usize, reading: Reading) -> usize
+    requires { ⌜ at + 23 ≤ length (now text) ⌝ }
+    ensures end { λ r. ⌜ r ≡ at + length (readingText reading) ⌝ }
+    ensures most { λ r. ⌜ r ≤ at + 23 ⌝ }
+    ensures text { λ _. ⌜ now (text .exit) ≡ sets (now (text .entry)) at (readingText reading) ⌝ }
+{
+    match reading {
+        Reading::Refused(k) => put_refused(text, at, k),
+        Reading::Value(v) => {
+            let numbers = [v];
+            put_line(text, at, &numbers)
         }
-        Answer::Granted(g) => put_granted(text, g, path),
-        Answer::Released => text::put(text, 0, b" released"),
     }
 }
 
-// Writes the first `end` bytes of a text.
-fn write_text(text: &[u8], end: usize)
-    requires { ⌜ end ≤ length (now text) ⌝ }
+// What a load answered, as a line of its own.
+pub fn put_loading(text: &mut [u8], at: usize, loading: Loading) -> usize
+    requires { ⌜ at + 13 ≤ length (now text) ⌝ }
+    ensures end { λ r. ⌜ r ≡ at + length (loadingText loading) ⌝ }
+    ensures most { λ r. ⌜ r ≤ at + 13 ⌝ }
+    ensures text { λ _. ⌜ now (text .exit) ≡ sets (now (text .entry)) at (loadingText loading) ⌝ }
 {
-    io::write_all(STDOUT_FILENO, &text[..end]);
-}
-
-// Ends the line.
-fn write_newline() {
-    io::write_all(STDOUT_FILENO, b"\n");
-}
-
-// Writes what a call answered, with the words of its path buffer, and ends the line.
-pub fn write_answer(answer: Answer, path: &[u32])
-    requires { ⌜ length (now path) ≤ 31 ⌝ }
-{
-    let mut text = [0u8; 374];
-    let end = put_answer(&mut text, answer, path);
-    write_text(&text, end);
-    write_newline();
-}
-
-// Writes a field for each of these numbers.
-pub fn write_fields(numbers: &[u32])
-    requires { ⌜ length (now numbers) ≤ 31 ⌝ }
-{
-    let mut text = [0u8; 374];
-    let end = text::put_fields(&mut text, 0, numbers);
-    write_text(&text, end);
-}
-
-// The same, and ends the line.
-pub fn write_line(numbers: &[u32])
-    requires { ⌜ length (now numbers) ≤ 31 ⌝ }
-{
-    write_fields(numbers);
-    write_newline();
-}
-
-// Writes a path and ends the line.
-pub fn write_path(words: &[u32], links: u32)
-    requires { ⌜ length (now words) ≤ 31 ⌝ }
-{
-    write_line(path_told(words, links));
-}
-
-pub fn write_reading(r: Reading) {
-    match r {
-        Reading::Refused(k) => write_line(&[0, k]),
-        Reading::Value(v) => write_line(&[v]),
-    }
-}
-
-// A load has a line of its own.
-pub fn write_loading(loading: Loading) {
     match loading {
         Loading::Refused(k) => {
-            io::write_all(STDOUT_FILENO, b"0");
-            write_line(&[k]);
+            let end = text::put(text, at, b"0");
+            let numbers = [k];
+            put_line(text, end, &numbers)
         }
-        Loading::Loaded => {
-            io::write_all(STDOUT_FILENO, b"loaded\n");
-        }
+        Loading::Loaded => text::put(text, at, b"loaded\n"),
     }
-}
-
-// A link's free units, on a line of this name.
-pub fn write_free(name: &[u8], area: &[u32; 3459], link: u32) {
-    io::write_all(STDOUT_FILENO, name);
-    write_reading(reads::free_units(area, link));
 }

@@ -2,22 +2,23 @@
 -- by places, and the listing names exactly the held numbers. Each law goes by one place more.
 -- Assumes nothing.
 use mathlib.Core.Path.{_≡_, refl, sym, ap, _∙_}
-use mathlib.Core.Bool.{Bool, true, false, cond, _||_, or-true}
+use mathlib.Core.Bool.{Bool, true, false, cond, not, _||_, or-true}
 use mathlib.Core.List.{List}
 use Prim.Native.Nat.{ℕ, zero, suc, _+_, _≤_, _<_}
 use native.Mathlib.Nat.{add-zero, zero-add, add-suc, suc-add}
 use native.Mathlib.Omega.{arith}
 use lib.Dec.{ltb, eqb}
 use lib.ListN.{length}
-use borrow.Author.Tests.{ltb-true, lt-ltb, le-ltb, eqb-true}
+use borrow.Author.Tests.{ltb-true, lt-ltb, le-ltb, eqb-true, eq-eqb, ne-eqb}
 use Rattle.network.specs.Lists.{All, memb, Distinct}
 use Rattle.network.specs.Loops.{first}
-use Rattle.network.proofs.Loops.{first-passes}
+use Rattle.network.proofs.Loops.{first-most, first-passes}
 use Rattle.network.proofs.Stored.{from-length}
 use Rattle.network.proofs.Tests.{by-eq}
-use Rattle.area.specs.Station.{circuitOf, circuitAt, circuits}
+use Rattle.area.specs.Station.{Circuit, circuitOf, circuitAt, circuits}
 use Rattle.area.specs.Books.{numbers, holds}
 use Rattle.area.specs.Held.{ListsHeld, numberAt, foundAt, numbersFrom}
+use Rattle.area.proofs.Each.{images-each}
 
 -- a circuit's number is the first of its words
 pub circuit-number : (w : List ℕ) (j : ℕ) → circuitAt w j .number ≡ numberAt w j
@@ -45,17 +46,32 @@ holds-found w zero k = refl
 holds-found w (suc h) k =
     rw (holds-found w h k) (found-more (eqb k (numberAt w h)) (first (λ j. eqb k (numberAt w j)) h) h)
 
+-- a number that is at most b is b where it is not below b
+not-less : (a b : ℕ) → a ≤ b → not (ltb a b) ≡ eqb a b
+not-less a b most =
+    by-eq a b (λ e. rw (le-ltb a b (omega arith), eq-eqb a b e) refl)
+    (λ e. rw (lt-ltb a b (omega arith), ne-eqb a b e) refl)
+
+-- a number is not held if and only if the search for it comes to the end
+pub unheld-found : (w : List ℕ) (h k : ℕ) → eqb (foundAt w h k) h ≡ not (holds (circuits w h) k)
+unfolding foundAt
+unheld-found w h k = sym (ap not (holds-found w h k) ∙ not-less (foundAt w h k) h (first-most (λ j. eqb k (numberAt w j)) h))
+
 -- what is found has the number
 pub found-number : (w : List ℕ) (h k : ℕ) → foundAt w h k < h → k ≡ numberAt w (foundAt w h k)
 unfolding foundAt
 found-number w h k low = eqb-true k _ (first-passes (λ j. eqb k (numberAt w j)) h low)
 
 -- ---- no number twice
--- what holds of every held number holds of the number at every place
+-- what holds of every held circuit holds of the circuit at every place
+pub each-circuit : (P : Circuit → Type 0) (w : List ℕ) (h : ℕ) → All P (circuits w h) → (j : ℕ) → j < h → P (circuitAt w j)
+each-circuit P w zero all j low = absurd (omega arith)
+each-circuit P w (suc h) all j low = by-eq j h (λ e. rw e (all .0)) (λ e. each-circuit P w h (all .1) j (omega arith))
+
+-- and so of its number
 number-each : (P : ℕ → Type 0) (w : List ℕ) (h : ℕ) → All P (numbers (circuits w h)) → (j : ℕ) → j < h → P (numberAt w j)
 unfolding circuitOf
-number-each P w zero all j low = absurd (omega arith)
-number-each P w (suc h) all j low = by-eq j h (λ e. rw e (all .0)) (λ e. number-each P w h (all .1) j (omega arith))
+number-each P w h all = each-circuit (λ c. P (c .number)) w h (images-each (λ c. c .number) P (circuits w h) all)
 
 -- where held numbers differ, two places have two numbers
 pub numbers-once : (w : List ℕ) (h : ℕ) → Distinct (numbers (circuits w h))
@@ -71,7 +87,8 @@ numbers-once w (suc h) once i j low low' apart same =
     (λ q. numbers-once w h (once .1) i j (omega arith) (omega arith) apart same))
 
 -- ---- the listing
-or-swap : (a b c : Bool) → (a || (b || c)) ≡ (b || (a || c))
+-- one of three tests, in another order
+pub or-swap : (a b c : Bool) → (a || (b || c)) ≡ (b || (a || c))
 or-swap true true c = refl
 or-swap true false c = refl
 or-swap false b c = refl

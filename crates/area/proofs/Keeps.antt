@@ -16,6 +16,7 @@ use Rattle.area.specs.Station.{Circuit, Station, capacityOf}
 use Rattle.area.specs.Books.{unitsOn, usage, numbers, holds, free}
 use Rattle.area.specs.Formed.{CircuitFits, Sound}
 use Rattle.area.specs.Moves.{without, withCircuit, withoutNumber}
+use Rattle.area.proofs.Each.{images-each, each-image}
 
 -- ---- a circuit more
 -- a circuit that fits, with a number of its own and units that are free on its links
@@ -53,9 +54,8 @@ each-without P k [] h = tt
 each-without P k (c ∷ l) h = at-head k c l (All P) (λ e. each-without P k l (h .1)) (λ e. (h .0, each-without P k l (h .1)))
 
 numbers-without : (P : ℕ → Type 0) (k : ℕ) (l : List Circuit) → All P (numbers l) → All P (numbers (without k l))
-numbers-without P k [] h = tt
-numbers-without P k (c ∷ l) h =
-    at-head k c l (λ m. All P (numbers m)) (λ e. numbers-without P k l (h .1)) (λ e. (h .0, numbers-without P k l (h .1)))
+numbers-without P k l h =
+    each-image (λ c. c .number) P (without k l) (each-without (λ c. P (c .number)) k l (images-each (λ c. c .number) P l h))
 
 differ-without : (k : ℕ) (l : List Circuit) → Distinct (numbers l) → Distinct (numbers (without k l))
 differ-without k [] h = tt

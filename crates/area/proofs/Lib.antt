@@ -1,3 +1,4 @@
+pub mod Each
 pub mod WordsAt
 pub mod Found
 pub mod PathTest

@@ -14,6 +14,8 @@ use Rattle.area.specs.Books.{unitsOn, usage, numbers, holds, books}
 use Rattle.area.specs.Formed.{CircuitFits, Sound}
 use Rattle.area.specs.Moves.{without}
 use Rattle.area.specs.Order.{Same, alike, skip, swap, next, Agrees}
+use Rattle.area.proofs.Each.{images-each, each-image}
+use Rattle.area.proofs.Found.{or-swap}
 
 -- ---- the circuits in another order
 pub same-sym : {l m : List Circuit} → Same l m → Same m l
@@ -28,12 +30,6 @@ usage-same alike i = refl
 usage-same (skip {c = c} h) i = ap (λ (n : ℕ). unitsOn c i + n) (usage-same h i)
 usage-same (swap {c = c} {d = d} {l = l}) i = omega arith
 usage-same (next h k) i = usage-same h i ∙ usage-same k i
-
-or-swap : (a b c : Bool) → (a || (b || c)) ≡ (b || (a || c))
-or-swap true true c = refl
-or-swap true false c = refl
-or-swap false true c = refl
-or-swap false false c = refl
 
 -- have the same numbers
 pub holds-same : {l m : List Circuit} → Same l m → (k : ℕ) → holds l k ≡ holds m k
@@ -81,16 +77,14 @@ all-same P swap a = (a .1 .0, (a .0, a .1 .1))
 all-same P (next h k) a = all-same P k (all-same P h a)
 
 -- a statement of every number
-numbers-all : (P : ℕ → Type 0) {l m : List Circuit} → Same l m → All P (numbers l) → All P (numbers m)
-numbers-all P alike a = a
-numbers-all P (skip h) a = (a .0, numbers-all P h (a .1))
-numbers-all P swap a = (a .1 .0, (a .0, a .1 .1))
-numbers-all P (next h k) a = numbers-all P k (numbers-all P h a)
+numbers-same : (P : ℕ → Type 0) {l m : List Circuit} → Same l m → All P (numbers l) → All P (numbers m)
+numbers-same P {l} {m} h a =
+    each-image (λ c. c .number) P m (all-same (λ c. P (c .number)) h (images-each (λ c. c .number) P l a))
 
 -- and if the numbers differ, they still do
 pub differ-same : {l m : List Circuit} → Same l m → Distinct (numbers l) → Distinct (numbers m)
 differ-same alike a = a
-differ-same (skip {c = c} h) a = (numbers-all (λ b. c .number ≡ b → ⊥) h (a .0), differ-same h (a .1))
+differ-same (skip {c = c} h) a = (numbers-same (λ b. c .number ≡ b → ⊥) h (a .0), differ-same h (a .1))
 differ-same swap a = ((λ e. a .0 .0 (sym e), a .1 .0), (a .0 .1, a .1 .1))
 differ-same (next h k) a = differ-same k (differ-same h a)
 

@@ -1,7 +1,7 @@
 -- The node-set test of a path says what `PathOf` says: a link passes where its head is not yet in the set, and the set
 -- holds just the nodes that were passed, so no node is passed twice.
 -- Assumes nothing.
-use mathlib.Core.Path.{_≡_, refl, sym, _∙_, ap, subst}
+use mathlib.Core.Path.{_≡_, refl, sym, _∙_, subst}
 use mathlib.Core.Bool.{true, false, not, _&&_, false≢true}
 use mathlib.Core.List.{List, [], _∷_, map}
 use Prim.Native.Nat.{ℕ, zero, suc, _<_}
@@ -18,24 +18,7 @@ use Rattle.network.proofs.Tests.{fst-of, snd-of}
 use Rattle.area.specs.Station.{Table, tailOf, headOf}
 use Rattle.area.specs.Books.{whole}
 use Rattle.area.specs.Formed.{PathOf, goesOn, onward, pathFits}
-
--- ---- statements about every element of a list
-pub all-then : {P Q : ℕ → Type 0} → ((a : ℕ) → P a → Q a) → (l : List ℕ) → All P l → All Q l
-all-then f [] h = tt
-all-then f (a ∷ l) h = (f a (h .0), all-then f l (h .1))
-
-all-both : {P Q R : ℕ → Type 0} → ((a : ℕ) → P a → Q a → R a) → (l : List ℕ) → All P l → All Q l → All R l
-all-both f [] h k = tt
-all-both f (a ∷ l) h k = (f a (h .0) (k .0), all-both f l (h .1) (k .1))
-
--- numbers differ where their images do
-distinct-map : (f : ℕ → ℕ) (l : List ℕ) → Distinct (map f l) → Distinct l
-distinct-map f [] h = tt
-distinct-map f (a ∷ l) h = (apart l (h .0), distinct-map f l (h .1))
-  where
-    apart : (l : List ℕ) → All (λ b. f a ≡ b → ⊥) (map f l) → All (λ b. a ≡ b → ⊥) l
-    apart [] h = tt
-    apart (b ∷ l) h = ((λ e. h .0 (ap f e)), apart l (h .1))
+use Rattle.area.proofs.Each.{all-then, all-both, distinct-map}
 
 -- ---- a node set with one node more
 -- a node that is not in the greater set is another one, and not in the smaller set

@@ -1,5 +1,5 @@
--- One turn of each loop that stores, and its end: what the loop has yet to do, done from here, comes to the same. And what
--- the stores of an admission and of a release come to.
+-- The loop that moves words up, by a turn and at its end: what it has yet to do, done from here, comes to the same. And
+-- what the stores of an admission and of a release come to.
 -- Assumes nothing.
 use mathlib.Core.Path.{_≡_}
 use mathlib.Core.List.{List}

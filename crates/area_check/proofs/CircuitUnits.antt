@@ -11,7 +11,7 @@ use native.Mathlib.Omega.{arith}
 use lib.Dec.{leb}
 use lib.ListN.{length, getD}
 use borrow.Author.Tests.{le-leb, lt-leb}
-use Rattle.network.specs.Lists.{All, memb, Distinct}
+use Rattle.network.specs.Lists.{memb, Distinct}
 use Rattle.network.specs.Words.{field}
 use Rattle.network.proofs.Loops.{every-fails, every-all}
 use Rattle.network.proofs.Tests.{by-bool, by-eq}
@@ -21,16 +21,12 @@ use Rattle.area.specs.Formed.{CircuitFits, unitsFit}
 use Rattle.area_check.specs.Units.{enough, taken, left}
 use Rattle.area_fit.specs.Ready.{Held}
 use Rattle.area.proofs.WordsAt.{words-length}
+use Rattle.area.proofs.Found.{each-circuit}
 use Rattle.area.proofs.PathTest.{path-links-differ, path-links-low, path-member-low}
 use Rattle.area.proofs.Formed.{held-says}
 use Rattle.area_check.proofs.Taken.{taken-at, enough-says, enough-fails}
 
 -- ---- the circuits that are held
--- what holds of all circuits holds of the one at each place
-each-circuit : (P : Circuit → Type 0) (w : List ℕ) (h : ℕ) → All P (circuits w h) → (j : ℕ) → j < h → P (circuitAt w j)
-each-circuit P w zero all j low = absurd (omega arith)
-each-circuit P w (suc h) all j low = by-eq j h (λ e. rw e (all .0)) (λ e. each-circuit P w h (all .1) j (omega arith))
-
 -- m links, whatever the nodes
 abbrev pub tableWith : ℕ → List ℕ → Table
 tableWith m words = record { nodes = 0; links = m; words = words }

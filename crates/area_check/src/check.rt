@@ -1,4 +1,4 @@
-// The check that an area is well formed, which every call but Load begins with.
+// The check that an area is well formed, with which every call on a loaded area begins.
 ghost use mathlib.Core.Path.{_≡_};
 ghost use Prim.Native.Nat.{ℕ};
 ghost use lib.ListN.{getD};
@@ -13,7 +13,7 @@ use area_words::layout;
 use area_words::range::in_range;
 use links::link;
 
-// Whether the area is well formed, and every link's free units.
+// Whether the area is well formed, and every link's free units; these are all 0 where it is not.
 pub fn check(area: &[u32]) -> Checked
     ensures formed { λ r. ⌜ r .formed ≡ wellFormed (now (area .entry)) ⌝ }
     ensures free { λ r. ⌜ ((i : ℕ) → getD (r .free) i 0 ≡ freeIn (now (area .entry)) i) ⌝ }

@@ -1,5 +1,5 @@
-// The check that an area is well formed, which every call but Load begins with, and each link's free units. It takes any
-// words.
+// The check that an area is well formed, with which every call on a loaded area begins, and each link's free units. It
+// takes any words.
 pub mod check;
 mod units;
 

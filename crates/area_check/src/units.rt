@@ -13,7 +13,8 @@ use area_words::layout;
 use links::link;
 use links::link::column;
 
-// Takes `units` of each link of `path`; false where a link has fewer.
+// Takes `units` of each link of `path`; false where a link has fewer. The area is then not well formed, and nobody reads
+// what is left of `free`.
 fn take_path(free: &mut [u32; 256], path: &[u32], units: u32) -> bool
     requires { ⌜ ((k : ℕ) → k < length (now path) → getD (now path) k 0 < 256) ⌝ }
     ensures is { λ r. ⌜ r ≡ enough units (now (path .entry)) (now (free .entry)) ⌝ }

@@ -6,28 +6,26 @@ use mathlib.Core.Path.{_≡_, refl, sym, ap, _∙_}
 use mathlib.Core.Bool.{Bool, true, false, not, _&&_}
 use mathlib.Core.List.{List}
 use Prim.Native.Nat.{ℕ, zero, suc, _≤_}
-use native.Mathlib.Omega.{arith}
-use lib.Dec.{ltb, leb, eqb}
+use lib.Dec.{eqb}
 use lib.ListN.{length, getD}
-use borrow.Author.Tests.{leb-true, lt-ltb, le-ltb, eq-eqb, ne-eqb, not-true, not-false}
+use borrow.Author.Tests.{not-true, not-false}
 use Rattle.network.specs.Loops.{every}
-use Rattle.network.proofs.Loops.{first-most}
-use Rattle.network.proofs.Tests.{by-eq, fst-of, snd-of}
 use Rattle.area.specs.Station.{wordsAt, place, circuitOf, circuitAt, circuits}
 use Rattle.area.specs.Books.{holds}
 use Rattle.area.specs.Held.{numberAt, foundAt}
 use Rattle.area.specs.Formed.{inRange, pathFits, circuitFits, heldFit}
 use Rattle.area_fit.specs.Ready.{placeFits}
 use Rattle.area.proofs.WordsAt.{words-length}
-use Rattle.area.proofs.Found.{holds-found}
+use Rattle.area.proofs.Found.{unheld-found}
+use Rattle.area.proofs.Formed.{range-says}
 
 -- ---- a number in range
 module _ (low high x : ℕ) {t : Bool} (test : t ≡ inRange low high x) (in-it : not t ≡ false) where
   pub range-least : low ≤ x
-  range-least = leb-true low x (fst-of (leb low x) (leb x high) (sym test ∙ not-false _ in-it))
+  range-least = range-says low high x (sym test ∙ not-false _ in-it) .0
 
   pub range-most : x ≤ high
-  range-most = leb-true x high (snd-of (leb low x) (leb x high) (sym test ∙ not-false _ in-it))
+  range-most = range-says low high x (sym test ∙ not-false _ in-it) .1
 
 -- ---- a circuit's words
 -- a part has the length that was asked for
@@ -63,17 +61,6 @@ module _ (m : ℕ) (words c : List ℕ) where
           ∙ rw (circuit-tests, ← number, not-false a number-in, ← units, not-false b units-in, ← count, not-false d count-in, q, e) refl
 
 -- ---- a place
--- a search that is at its end found nothing
-not-less : (a b : ℕ) → a ≤ b → not (ltb a b) ≡ eqb a b
-not-less a b most =
-    by-eq a b (λ e. rw (le-ltb a b (omega arith), eq-eqb a b e) refl)
-    (λ e. rw (lt-ltb a b (omega arith), ne-eqb a b e) refl)
-
--- a number that is found nowhere before is not held there
-not-held : (w : List ℕ) (j k : ℕ) → eqb (foundAt w j k) j ≡ not (holds (circuits w j) k)
-unfolding foundAt
-not-held w j k = sym (ap not (holds-found w j k) ∙ not-less (foundAt w j k) j (first-most (λ i. eqb k (numberAt w i)) j))
-
 -- the code reads circuit j's words at its place, and tests them
 module _ (m : ℕ) (words w : List ℕ) (j at : ℕ) (here : at ≡ place j)
     (p : List ℕ) (part : p ≡ wordsAt w at 34) {t : Bool} (test : t ≡ circuitFits m words (circuitOf p)) where
@@ -91,7 +78,7 @@ module _ (m : ℕ) (words w : List ℕ) (j at : ℕ) (here : at ≡ place j)
   -- the circuit fits: it is up to its number
   pub number-left : not t ≡ false → (f : ℕ) → f ≡ foundAt w j (getD w at 0) → eqb f j ≡ placeFits m words w j
   number-left fits f e =
-      ap (λ (n : ℕ). eqb n j) (e ∙ ap (λ (a : ℕ). foundAt w j (getD w a 0)) here) ∙ not-held w j (numberAt w j)
+      ap (λ (n : ℕ). eqb n j) (e ∙ ap (λ (a : ℕ). foundAt w j (getD w a 0)) here) ∙ unheld-found w j (numberAt w j)
       ∙ rw (place-tests, circuit-test, not-false t fits) refl
 
 -- ---- all of them

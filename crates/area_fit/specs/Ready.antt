@@ -1,4 +1,5 @@
--- What the functions below the calls rely on; the calls check it before they come to them.
+-- What functions on a part of an area rely on, shown before by the check of the area or by a call that passed it: its
+-- links, room for its circuits, circuits that fit. And the test of one place.
 -- Assumes nothing.
 use Prim.Native.Nat.{ℕ, _*_, _≤_, _<_}
 use mathlib.Core.Path.{_≡_}

@@ -1,4 +1,4 @@
-// Where the words of an area stand.
+// Where the words of an area stand, a lent part of them, and words put from a place on.
 ghost use mathlib.Core.Path.{_≡_};
 ghost use Prim.Native.Nat.{_+_, _≤_};
 ghost use lib.ListN.{length};
@@ -18,7 +18,7 @@ pub const HELD: usize = 2;
 // Where the links begin.
 pub const FIRST_LINK: usize = 3;
 
-// A circuit's words: number, units, link count, then the path.
+// How many words a circuit has: number, units, link count, then 31 path words.
 pub const CIRCUIT: usize = 34;
 
 // Where circuit `j` begins. The callers count circuits, of which a checked area has at most 64.

@@ -2,9 +2,9 @@
 -- gives the followed links with their own sums.
 -- Assumes nothing.
 use mathlib.Core.Path.{_≡_, sym, ap, _∙_}
-use mathlib.Core.List.{List}
+use mathlib.Core.List.{List, []}
 use mathlib.Core.Option.{none, some}
-use Prim.Native.Nat.{ℕ, _+_, _-_, _≤_, _<_}
+use Prim.Native.Nat.{ℕ, _-_, _≤_, _<_}
 use native.Mathlib.Omega.{arith}
 use lib.ListN.{length}
 use borrow.Author.Tests.{le-leb, lt-leb}
@@ -12,7 +12,7 @@ use Rattle.network.specs.Net.{Net, Ends}
 use Rattle.network.specs.Problem.{Problem}
 use Rattle.network.specs.Words.{netOf}
 use Rattle.network.specs.Cut.{follow}
-use Rattle.ebf.specs.Table.{cell, cells, number, filled, initialised, rounds, ebf}
+use Rattle.ebf.specs.Table.{cell, cells, number, initialised, rounds, ebf}
 use Rattle.ebf.specs.Trace.{traced}
 use Rattle.ebf.specs.Solve.{pathIn, answerIn, solveIn, solve}
 use Rattle.ebf.specs.Search.{outcomeOf}
@@ -21,8 +21,8 @@ use Rattle.ebf.proofs.Sound.{initialised-good}
 use Rattle.ebf.proofs.Memory.{any-memory-solves}
 use Rattle.path_words.specs.declared.Leg.{Leg}
 use Rattle.table.specs.declared.Reduced.{Reduced}
-use Rattle.attempt.specs.declared.Answer.{Answer}
-use Rattle.attempt.specs.declared.Answer.the-variants.{NoSolution}
+use Rattle.network.specs.declared.Answer.{Answer}
+use Rattle.network.specs.declared.Answer.the-variants.{NoSolution}
 use Rattle.network.specs.Words.{Links}
 use Rattle.table.specs.Solver.{Sound, netIn, problemOf, unflagged, scaledOnly, Bounded}
 use Rattle.path_words.specs.Forward.{forwarded}
@@ -57,21 +57,21 @@ module _ (p : Reduced) (links usable kept scaled : List ℕ) (s t : ℕ) (sound 
   q = problemOf p kept scaled
 
   -- 16,384 words are enough for every table
-  room : Room g q s l
+  room : Room g q l
   unfolding cells netOf problemOf
   room = omega (arith, cells-below (p .nodes) (p .x) (sound .prepared .table .nodes-most) (sound .prepared .x))
 
   -- lines 1 to 5 and then the rounds
   pub table-is : {l₁ l₂ : List ℕ}
-      → l₁ ≡ filled (cell (p .x) s 0) (p .x + 1) 0 (filled 0 (cells (p .nodes) (p .x)) (p .bound + 1) l)
+      → l₁ ≡ initialised (unflagged p []) (scaledOnly p []) s l
       → l₂ ≡ rounds g q l₁
       → l₂ ≡ ebf g q s l
   unfolding ebf initialised netOf problemOf
   table-is e₁ e₂ = e₂ ∙ ap (rounds g q) e₁
 
-  -- which leave every number within the bound, or bound + 1
+  -- lines 1 to 5 leave every number within the bound, or bound + 1, as the rounds require
   pub table-bounded : {l₁ : List ℕ}
-      → l₁ ≡ filled (cell (p .x) s 0) (p .x + 1) 0 (filled 0 (cells (p .nodes) (p .x)) (p .bound + 1) l)
+      → l₁ ≡ initialised (unflagged p []) (scaledOnly p []) s l
       → Bounded p l₁
   unfolding initialised netOf problemOf
   table-bounded e v k v-low k-low = rw e (initialised-good g q s l room s-low .below v k v-low k-low)

@@ -10,8 +10,8 @@ use Rattle.table.specs.declared.Reduced.{Reduced}
 use Rattle.table.specs.Solver.{unflagged, scaledOnly}
 use Rattle.path_words.specs.declared.Leg.{Leg}
 use Rattle.path_words.specs.Forward.{forwarded}
-use Rattle.attempt.specs.declared.Answer.{Answer}
-use Rattle.attempt.specs.declared.Answer.the-variants.{NoPath, NoSolution, Granted}
+use Rattle.network.specs.declared.Answer.{Answer}
+use Rattle.network.specs.declared.Answer.the-variants.{NoPath, NoSolution, Granted}
 
 -- the totals are the path's own sums
 unfoldable pub answerOf : Net → Outcome → Answer

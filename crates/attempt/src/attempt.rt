@@ -7,8 +7,8 @@ ghost use Rattle.ebf.specs.Solve.{solve};
 ghost use Rattle.ebf.specs.Search.{outcomeOf};
 ghost use Rattle.table.specs.Solver.{Sound, netIn, problemOf};
 ghost use Rattle.attempt.specs.Answers.{answerOf, grantOf, pathAfter, passed};
-use crate::Answer;
-use crate::Grant;
+use network::Answer;
+use network::Grant;
 use path_words::path::forward;
 use rounds::rounds::rounds;
 use table::Reduced;
@@ -43,7 +43,9 @@ fn found(
     })
 }
 
-// Problem `which`: `kept` is the column of the weight that is kept, `scaled` that of the other one scaled.
+// Problem `which`: `kept` is the column of the weight that is kept, `scaled` that of the other one scaled. After lines 20
+// to 24 it has a solution where d[t, x] is within the bound, since d[t, x] covers every scaled weight up to x. Work
+// memory is open after.
 pub fn attempt(
     work: &mut [u32],
     path: &mut [u32],
@@ -57,7 +59,7 @@ pub fn attempt(
     which: u32,
 ) -> Answer
     requires { ⌜ Sound p (now links) (now usable) (now kept) ⌝ }
-    requires { ⌜ (16384 ≤ length (now work)) × (31 ≤ length (now path)) × (s < p .nodes) × (t < p .nodes) × (s ≡ t → ⊥) ⌝ }
+    requires { ⌜ (16384 ≤ length (now work)) × (31 ≤ length (now path)) × (s < p .nodes) × (t < p .nodes) ⌝ }
     ensures answer { λ a. ⌜ a ≡ answerOf (netIn p (now (links .entry)) (now (usable .entry)))
         (outcomeOf which (solve (netIn p (now (links .entry)) (now (usable .entry))) (problemOf p (now (kept .entry)) (now (scaled .entry))) s t)) ⌝ }
     ensures path { λ _. ⌜ now (path .exit) ≡ pathAfter

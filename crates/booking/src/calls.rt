@@ -1,4 +1,4 @@
-// Admission and release.
+// Admission and release: each checks in document 01's order, and stores where nothing refuses.
 ghost use mathlib.Core.Path.{_≡_};
 ghost use lib.ListN.{length};
 ghost use Rattle.rules.specs.Replies.{answerOf, pathAfter};
@@ -15,7 +15,7 @@ use request_checks::request::number_fits;
 use rules::Answer;
 use seek::seek::seek;
 
-// Most circuits held.
+// The most circuits that may be held.
 const CIRCUITS: u32 = 64;
 
 // 5, 6, 7, 8, 11, 12, 9 and 10 in this order; else it answers as a quote does and adds the circuit. Work memory is open
@@ -59,7 +59,7 @@ pub fn admit(
 }
 
 // 5 and 13 in this order; else the circuit with this number goes and the others remain.
-// The reply means what document 01 says: 5 and 13 refuse where they apply, in this order, and else it is released.
+// The reply means what document 01 says: the first rule that applies refuses, and else it is released.
 pub fn release(area: &mut [u32], number: u32) -> Answer
     ensures answer { λ a. ⌜ a ≡ answerOf (release (now (area .entry)) number) ⌝ }
     ensures area { λ _. ⌜ now (area .exit) ≡ cleared (now (area .entry)) number (release (now (area .entry)) number) ⌝ }

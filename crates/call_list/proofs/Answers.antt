@@ -6,7 +6,7 @@ use mathlib.Core.Path.{_≡_, refl, ap, _∙_, subst}
 use mathlib.Core.Bool.{true, false}
 use mathlib.Core.List.{List}
 use native.Mathlib.Omega.{arith}
-use lib.ListN.{length, replicate, length-replicate}
+use lib.ListN.{length, length-replicate}
 use Rattle.network.specs.Loops.{iter, first}
 use Rattle.network.specs.Scale.{scaled}
 use Rattle.network.specs.Cut.{noted, follow}
@@ -24,15 +24,12 @@ use Rattle.rules.specs.Calls.{quote, admission, booked, release, cleared}
 use Rattle.ledger.specs.History.{answers, given, bookings, remaining}
 use Rattle.ledger.proofs.Striking.{none-struck, all-remain}
 use Rattle.ledger.proofs.Demands.{third-demand}
-use Rattle.cases.specs.Cases.{linksA}
+use Rattle.cases.specs.Cases.{linksA, blank}
 use Rattle.call_list.specs.Calls.{rows, calls}
 use Rattle.call_list.specs.Answers.{expected, held}
 use Rattle.call_list.proofs.Runs.{load-accepts, struck-calls, endOf, runs-agree}
 
 -- ---- from an area of zeros
-abbrev blank : List ℕ
-blank = replicate 3459 0
-
 computed : (answers (areaLoaded blank 4 linksA) (calls false) ≡ expected) × (bookings (endOf false blank) ≡ held)
 unfolding calls rows given areaLoaded quote admission booked release cleared tableIn circuitOf search tried solve solveIn answerIn pathIn ebf rounds round column offered relaxed improved initialised filled cell cells traced stepBack trailBack noted follow distance layer spread problemOne problemTwo scaled iter first
 computed = (refl, refl)

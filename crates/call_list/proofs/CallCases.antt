@@ -1,4 +1,4 @@
--- What a call of the list leaves, one law for each return of the functions of `history` that make it.
+-- What a call of the list leaves, one law for each return of the functions of `call_runs` that make it.
 -- Assumes nothing.
 use Prim.Native.Nat.{ℕ, suc, _+_, _-_, _≤_, _<_}
 use mathlib.Core.Path.{_≡_, refl, sym, ap, _∙_}
@@ -14,7 +14,7 @@ use Rattle.rules.specs.declared.Answer.{Answer}
 use Rattle.rules.specs.Replies.{answerOf, pathAfter}
 use Rattle.rules.specs.Calls.{booksIn, quote, admission, booked, release, cleared}
 use Rattle.ledger.specs.History.{Lending, replyTo, areaAfter, areaAtEnd}
-use Rattle.call_list.specs.Calls.{rows, kindOf, isQuote, requestOf, callOf, workLent, pathLent, rubbish, filler, workWords, pathWords, lent, callAt, callsFrom}
+use Rattle.call_list.specs.Calls.{rows, kindOf, isQuote, requestOf, callOf, workLent, pathLent, workFiller, pathFiller, workWords, pathWords, lent, callAt, callsFrom}
 
 -- a release leaves any path buffer as it was
 unwritten : (w : List ℕ) (c : ℕ) (l : List ℕ) → l ≡ pathAfter (release w c) l
@@ -53,13 +53,13 @@ module _ (w work path r : List ℕ) where
 
 -- ---- with the words that it is lent
 module _ (struck : Bool) (k : ℕ) (r : List ℕ) where
-  pub work-as : (n word : ℕ) → n ≡ workLent (kindOf r) → word ≡ rubbish struck k
+  pub work-as : (n word : ℕ) → n ≡ workLent (kindOf r) → word ≡ workFiller struck k
       → take n (replicate 16384 word) ≡ workWords struck k (kindOf r)
   unfolding workWords
   work-as n word many is =
       ap (λ (m : ℕ). take m (replicate 16384 word)) many ∙ ap (λ (a : ℕ). take (workLent (kindOf r)) (replicate 16384 a)) is
 
-  pub path-as : (n word : ℕ) → n ≡ pathLent (kindOf r) → word ≡ filler struck → take n (replicate 31 word) ≡ pathWords struck (kindOf r)
+  pub path-as : (n word : ℕ) → n ≡ pathLent (kindOf r) → word ≡ pathFiller struck → take n (replicate 31 word) ≡ pathWords struck (kindOf r)
   unfolding pathWords
   path-as n word many is =
       ap (λ (m : ℕ). take m (replicate 31 word)) many ∙ ap (λ (a : ℕ). take (pathLent (kindOf r)) (replicate 31 a)) is

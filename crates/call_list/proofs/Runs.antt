@@ -18,7 +18,7 @@ use Rattle.ledger.specs.Ledger.{quoting, admitting, releasing}
 use Rattle.ledger.specs.History.{Lending, measured, answers, areaAtEnd, bookings, Struck, end, strike, keep, remaining}
 use Rattle.ledger.proofs.Demands.{third-demand}
 use Rattle.cases.specs.Cases.{linksA}
-use Rattle.call_list.specs.Calls.{rows, kindOf, isQuote, requestOf, callOf, workLent, pathLent, rubbish, filler, workWords, pathWords, lent, callsFrom, calls}
+use Rattle.call_list.specs.Calls.{rows, kindOf, isQuote, requestOf, callOf, workLent, pathLent, workFiller, pathFiller, workWords, pathWords, lent, callsFrom, calls}
 
 -- ---- a row's call
 -- measured, it goes by the lengths of what it is lent
@@ -40,11 +40,11 @@ length-lent k n a b = simp (length-take, length-replicate)
 
 work-length : (k kind : ℕ) → length (workWords false k kind) ≡ length (workWords true k kind)
 unfolding workWords
-work-length k kind = length-lent (workLent kind) 16384 (rubbish false k) (rubbish true k)
+work-length k kind = length-lent (workLent kind) 16384 (workFiller false k) (workFiller true k)
 
 path-length : (kind : ℕ) → length (pathWords false kind) ≡ length (pathWords true kind)
 unfolding pathWords
-path-length kind = length-lent (pathLent kind) 31 (filler false) (filler true)
+path-length kind = length-lent (pathLent kind) 31 (pathFiller false) (pathFiller true)
 
 measured-lent : (k : ℕ) (r : List ℕ) → measured (lent false k r) ≡ measured (lent true k r)
 unfolding lent

@@ -6,6 +6,7 @@ use lib.ListN.{length}
 use Rattle.area.specs.Station.{Circuit}
 use Rattle.rules.specs.declared.Answer.the-variants.{Refused, Granted, Released}
 use Rattle.ledger.specs.History.{Given}
+use Rattle.cases.specs.Cases.{three}
 
 abbrev refused : ℕ → Given
 refused k = record { numbers = Refused k; words = [] }
@@ -17,9 +18,6 @@ abbrev released : Given
 released = record { numbers = Released; words = [] }
 
 -- by the three links, and by link 3
-abbrev three : List ℕ
-three = 0 ∷ 1 ∷ 2 ∷ []
-
 abbrev byThree : ℕ → Given
 byThree k = granted k 6 15 three
 

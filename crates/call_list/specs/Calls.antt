@@ -1,5 +1,5 @@
--- The list of calls that the program `history` makes, as a history of the crate `ledger`: each row of its table is a call,
--- with the words that it is lent in the first run or in the second, where the quotes are struck.
+-- The list of calls that the program `history` makes, as a history of the crate `ledger`: each row of the table in
+-- `call_runs` is a call, with the words that it is lent in the first run or in the second, where the quotes are struck.
 -- Assumes nothing.
 use Prim.Native.Nat.{ℕ, zero, suc, _-_}
 use mathlib.Core.Bool.{Bool, cond, _&&_, _||_}
@@ -11,7 +11,9 @@ use Rattle.ledger.specs.Ledger.{Call, quoting, admitting, releasing}
 use Rattle.ledger.specs.History.{Lending}
 
 -- ---- the rows
--- kind, circuit number, source, target, units, delay bound, cost bound and coefficient
+-- kind, circuit number, source, target, units, delay bound, cost bound and coefficient; the kind is 0 for a quote, 1 for
+-- an admission, 2 for a release, 3 for an admission lent too little work memory, 4 for a quote lent too short a path
+-- buffer
 abbrev row : ℕ → ℕ → ℕ → ℕ → ℕ → ℕ → ℕ → ℕ → List ℕ
 row kind c s t b d x f = kind ∷ c ∷ s ∷ t ∷ b ∷ d ∷ x ∷ f ∷ []
 
@@ -78,19 +80,19 @@ unfoldable pub pathLent : ℕ → ℕ
 pathLent kind = cond (eqb kind 4) 30 31
 
 -- which words, by the run and the row's number
-unfoldable pub rubbish : Bool → ℕ → ℕ
-rubbish struck k = cond struck (4294967295 - k) k
+unfoldable pub workFiller : Bool → ℕ → ℕ
+workFiller struck k = cond struck (4294967295 - k) k
 
-unfoldable pub filler : Bool → ℕ
-filler struck = cond struck 98 99
+unfoldable pub pathFiller : Bool → ℕ
+pathFiller struck = cond struck 98 99
 
 unfoldable pub workWords : Bool → ℕ → ℕ → List ℕ
-unfolding workLent rubbish
-workWords struck k kind = take (workLent kind) (replicate 16384 (rubbish struck k))
+unfolding workLent workFiller
+workWords struck k kind = take (workLent kind) (replicate 16384 (workFiller struck k))
 
 unfoldable pub pathWords : Bool → ℕ → List ℕ
-unfolding pathLent filler
-pathWords struck kind = take (pathLent kind) (replicate 31 (filler struck))
+unfolding pathLent pathFiller
+pathWords struck kind = take (pathLent kind) (replicate 31 (pathFiller struck))
 
 -- the call of row k, with its words r
 unfoldable pub lent : Bool → ℕ → List ℕ → Lending

@@ -3,7 +3,7 @@ ghost use mathlib.Core.Path.{_≡_};
 ghost use mathlib.Core.Bool.{_&&_, cond};
 ghost use Prim.Native.Nat.{_≤_};
 ghost use lib.Dec.{eqb};
-ghost use Rattle.call_list.specs.Calls.{isQuote, rubbish, filler};
+ghost use Rattle.call_list.specs.Calls.{isQuote, workFiller, pathFiller};
 
 // The last two lend too little: an admission 8 words of work memory, a quote a path buffer of 30.
 pub(crate) const QUOTE: u32 = 0;
@@ -41,15 +41,15 @@ pub(crate) fn lent(kind: u32, short: u32, few: usize, enough: usize) -> usize
 
 // Every word of work memory before a call, another at each call and in each run. In the first run a search that trusts
 // it would take it for nodes, links and small weights.
-pub(crate) fn rubbish(struck: bool, row: u32) -> u32
-    ensures { λ r. ⌜ r ≡ rubbish struck row ⌝ }
+pub(crate) fn work_filler(struck: bool, row: u32) -> u32
+    ensures { λ r. ⌜ r ≡ workFiller struck row ⌝ }
 {
     if struck { 4294967295 - row } else { row }
 }
 
 // Every word of the path buffer before a call.
 pub(crate) fn path_filler(struck: bool) -> u32
-    ensures { λ r. ⌜ r ≡ filler struck ⌝ }
+    ensures { λ r. ⌜ r ≡ pathFiller struck ⌝ }
 {
     if struck { 98 } else { 99 }
 }

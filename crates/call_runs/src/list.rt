@@ -92,6 +92,15 @@ fn answered(area: &mut [u32; 3459], work: &mut [u32], path: &mut [u32], row: [u3
     calls::admit(area, work, path, circuit, r)
 }
 
+// Writes what a call answered, with the words of its path buffer.
+fn write_answer(answer: Answer, path: &[u32])
+    requires { ⌜ length (now path) ≤ 31 ⌝ }
+{
+    let mut text = [0u8; 375];
+    let end = answer_lines::put_answer(&mut text, 0, answer, path);
+    io::write_all(STDOUT_FILENO, &text[..end]);
+}
+
 // Makes the call of row `k` with this work memory and path buffer, and prints its line.
 fn call(area: &mut [u32; 3459], work: &mut [u32], path: &mut [u32], k: u32, row: [u32; 8])
     requires { ⌜ length (now path) ≤ 31 ⌝ }
@@ -99,14 +108,14 @@ fn call(area: &mut [u32; 3459], work: &mut [u32], path: &mut [u32], k: u32, row:
 {
     write_name(k, row[0]);
     let answer = answered(area, work, path, row);
-    answer_lines::write_answer(answer, path);
+    write_answer(answer, path);
 }
 
 // Fills work memory and path buffer, and lends as many of their words as the row's kind is lent.
 fn lend_and_call(struck: bool, area: &mut [u32; 3459], k: u32, row: [u32; 8])
     ensures { λ _. ⌜ now (area .exit) ≡ areaAfter (now (area .entry)) (lent struck k row) ⌝ }
 {
-    let mut work: [u32; 16384] = [kinds::rubbish(struck, k); 16384];
+    let mut work: [u32; 16384] = [kinds::work_filler(struck, k); 16384];
     let mut path: [u32; 31] = [kinds::path_filler(struck); 31];
     let w = kinds::lent(row[0], SHORT_WORK, 8, 16384);
     let p = kinds::lent(row[0], SHORT_PATH, 30, 31);

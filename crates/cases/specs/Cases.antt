@@ -35,10 +35,14 @@ linksB =
     ∷ 0 ∷ 1 ∷ 1 ∷ 1 ∷ 5
     ∷ []
 
--- an area of zeros, loaded with four nodes and the links
+-- an area of zeros, as short as it may be
+abbrev pub blank : List ℕ
+blank = replicate 3459 0
+
+-- the same, loaded with four nodes and the links
 unfoldable pub area : List ℕ → List ℕ
 unfolding loaded
-area links = loaded (replicate 3459 0) 4 links
+area links = loaded blank 4 links
 
 unfoldable pub netA : List ℕ
 unfolding area
@@ -55,7 +59,7 @@ bare = area []
 
 -- Load accepts each of the three
 abbrev pub AreasLoaded : Type 0
-AreasLoaded = All (λ links. loadAnswer (replicate 3459 0) 4 links ≡ Loaded) (linksA ∷ linksB ∷ [] ∷ [])
+AreasLoaded = All (λ links. loadAnswer blank 4 links ≡ Loaded) (linksA ∷ linksB ∷ [] ∷ [])
 
 -- ---- the calls
 abbrev pub between : ℕ → ℕ → ℕ → ℕ → ℕ → ℕ → Request

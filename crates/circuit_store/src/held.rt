@@ -1,4 +1,4 @@
-// The numbers of held circuits.
+// Finding a held circuit by its number.
 ghost use mathlib.Core.Path.{_≡_};
 ghost use Prim.Native.Nat.{_≤_};
 ghost use lib.ListN.{length};

@@ -6,7 +6,8 @@ use Prim.Native.Nat.{ℕ, _≤_}
 use native.Mathlib.Omega.{arith}
 use lib.ListN.{length, take, drop, length-append}
 use lib.Seq.{take-append-seam}
-use Rattle.attempt.specs.declared.Grant.{Grant}
+use Rattle.network.proofs.Tests.{zero-one}
+use Rattle.network.specs.declared.Grant.{Grant}
 use Rattle.network.specs.Net.{Net}
 use Rattle.network.specs.Reduce.{Outcome, no-path, no-solution, granted}
 use Rattle.network.specs.declared.Request.{Request}
@@ -49,9 +50,9 @@ reply-refused k j releases e = let z : _≡_ {A = ℕ} 0 1 = cc in absurd (omega
 -- no quote has the reply of a release
 reply-never : (g : Net) (o : Outcome) → replyOf g o ≡ releases → ⊥
 unfolding replyOf
-reply-never g no-path e = let z : _≡_ {A = ℕ} 0 1 = cc in omega arith
-reply-never g no-solution e = let z : _≡_ {A = ℕ} 0 1 = cc in omega arith
-reply-never g (granted which path) e = let z : _≡_ {A = ℕ} 0 1 = cc in omega arith
+reply-never g no-path e = zero-one cc
+reply-never g no-solution e = zero-one cc
+reply-never g (granted which path) e = zero-one cc
 
 sought-never : (o : Books) (r : Request) → sought o r ≡ releases → ⊥
 unfolding sought
@@ -61,7 +62,7 @@ quote-never : (area : List ℕ) (work room : ℕ) (r : Request) → quote area w
 unfolding quote
 quote-never area work room r e =
     sought-never (booksIn area) r
-    (all-pass refuses (quoteChecks area work room r) (sought (booksIn area) r) releases (λ k clash. let z : _≡_ {A = ℕ} 0 1 = cc in omega arith) e .1)
+    (all-pass refuses (quoteChecks area work room r) (sought (booksIn area) r) releases (λ k clash. zero-one cc) e .1)
 
 released-reply : (x : Reply) → Released ≡ answerOf x → x ≡ releases
 unfolding answerOf

@@ -104,7 +104,7 @@ module _ (f : List ℕ) where
     table-fits = omega (arith, simp length-append at (ap length records-then), records-length f, links-are)
 
 -- ---- the whole output
--- input over 65,536 bytes is told apart
+-- by the length of the input
 pub long-file : (f : List ℕ) → 65536 < length f → output f ≡ fileLong
 unfolding output
 long-file f h = rw (lt-leb (length f) 65536 h)

@@ -35,6 +35,7 @@ unfoldable pub quoteLine : List ℕ → ℕ → ℕ → Service → List ℕ
 unfolding replyLine quote requestOf
 quoteLine area n k s = replyLine k (quote area 16384 31 (requestOf n s))
 
+-- the line of class k by what the class call answers
 unfoldable pub answeredLine : List ℕ → ℕ → ℕ → Answer → List ℕ
 unfolding replyLine quoteLine
 answeredLine area n k (Refused number) = replyLine k (refuses number)

@@ -1,4 +1,5 @@
--- Document 01's example: net A as a link file, and what the program prints for it, in ASCII. And two that are refused.
+-- Document 01's example: net A as a link file, and what the program prints for it, in ASCII; and what it prints where a
+-- file or a load is refused.
 -- Assumes nothing.
 use Prim.Native.Nat.{ℕ}
 use mathlib.Core.List.{List, [], _∷_, _++_}
@@ -17,31 +18,31 @@ netAFile = fileFor 4
 
 -- ---- the six lines
 -- 0 1 6 15 0 1 2
-abbrev class-zero : List ℕ
-class-zero = 48 ∷ 32 ∷ 49 ∷ 32 ∷ 54 ∷ 32 ∷ 49 ∷ 53 ∷ 32 ∷ 48 ∷ 32 ∷ 49 ∷ 32 ∷ 50 ∷ 10 ∷ []
+abbrev pub classZero : List ℕ
+classZero = 48 ∷ 32 ∷ 49 ∷ 32 ∷ 54 ∷ 32 ∷ 49 ∷ 53 ∷ 32 ∷ 48 ∷ 32 ∷ 49 ∷ 32 ∷ 50 ∷ 10 ∷ []
 
 -- 1 1 6 15 0 1 2
-abbrev class-one : List ℕ
-class-one = 49 ∷ 32 ∷ 49 ∷ 32 ∷ 54 ∷ 32 ∷ 49 ∷ 53 ∷ 32 ∷ 48 ∷ 32 ∷ 49 ∷ 32 ∷ 50 ∷ 10 ∷ []
+abbrev pub classOne : List ℕ
+classOne = 49 ∷ 32 ∷ 49 ∷ 32 ∷ 54 ∷ 32 ∷ 49 ∷ 53 ∷ 32 ∷ 48 ∷ 32 ∷ 49 ∷ 32 ∷ 50 ∷ 10 ∷ []
 
 -- 2 1 6 15 0 1 2
-abbrev class-two : List ℕ
-class-two = 50 ∷ 32 ∷ 49 ∷ 32 ∷ 54 ∷ 32 ∷ 49 ∷ 53 ∷ 32 ∷ 48 ∷ 32 ∷ 49 ∷ 32 ∷ 50 ∷ 10 ∷ []
+abbrev pub classTwo : List ℕ
+classTwo = 50 ∷ 32 ∷ 49 ∷ 32 ∷ 54 ∷ 32 ∷ 49 ∷ 53 ∷ 32 ∷ 48 ∷ 32 ∷ 49 ∷ 32 ∷ 50 ∷ 10 ∷ []
 
 -- 3 1 9 1 3
-abbrev class-three : List ℕ
-class-three = 51 ∷ 32 ∷ 49 ∷ 32 ∷ 57 ∷ 32 ∷ 49 ∷ 32 ∷ 51 ∷ 10 ∷ []
+abbrev pub classThree : List ℕ
+classThree = 51 ∷ 32 ∷ 49 ∷ 32 ∷ 57 ∷ 32 ∷ 49 ∷ 32 ∷ 51 ∷ 10 ∷ []
 
 -- 4 1 6 15 0 1 2
-abbrev class-four : List ℕ
-class-four = 52 ∷ 32 ∷ 49 ∷ 32 ∷ 54 ∷ 32 ∷ 49 ∷ 53 ∷ 32 ∷ 48 ∷ 32 ∷ 49 ∷ 32 ∷ 50 ∷ 10 ∷ []
+abbrev pub classFour : List ℕ
+classFour = 52 ∷ 32 ∷ 49 ∷ 32 ∷ 54 ∷ 32 ∷ 49 ∷ 53 ∷ 32 ∷ 48 ∷ 32 ∷ 49 ∷ 32 ∷ 50 ∷ 10 ∷ []
 
 -- 5 0 9
-abbrev class-five : List ℕ
-class-five = 53 ∷ 32 ∷ 48 ∷ 32 ∷ 57 ∷ 10 ∷ []
+abbrev pub classFive : List ℕ
+classFive = 53 ∷ 32 ∷ 48 ∷ 32 ∷ 57 ∷ 10 ∷ []
 
 abbrev pub netALines : List ℕ
-netALines = class-zero ++ class-one ++ class-two ++ class-three ++ class-four ++ class-five
+netALines = classZero ++ classOne ++ classTwo ++ classThree ++ classFour ++ classFive
 
 -- ---- refusals
 -- file 17

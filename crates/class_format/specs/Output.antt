@@ -49,10 +49,11 @@ unfolding refusal loadOutput
 readingOutput links (reading.Refused number) = refusal fileWord number
 readingOutput links (reading.Table s) = loadOutput (s .nodes) links
 
+-- the program's table has 1,280 words, enough for 256 links
 unfoldable pub fileOutput : List ℕ → List ℕ
 unfolding readingOutput readAnswer recordWords
 fileOutput file = readingOutput (recordWords file) (readAnswer file 1280)
 
--- input over 65,536 bytes is told apart
+-- input over 65,536 bytes prints only that it is long
 unfoldable pub output : List ℕ → List ℕ
 output file = cond (leb (length file) 65536) (fileOutput file) fileLong

@@ -1,14 +1,14 @@
 // The lines of the class program, one for each class, as bytes. A line has at most 34 fields behind the class, so at most
-// 385 bytes: the functions require room for a line, and the text has room for six.
+// 385 bytes: the functions require room for a line, and the text has room for six. Only `class_quotes` calls them.
 ghost use mathlib.Core.Path.{_≡_};
 ghost use mathlib.Core.List.{[], _∷_};
 ghost use Prim.Native.Nat.{_+_, _≤_};
 ghost use lib.ListN.{length};
 ghost use lib.Seq.{sets};
 ghost use Rattle.class_format.specs.Lines.{line, requestOf, quoteLine, classLine, lines};
-use attempt::Grant;
 use classes::Service;
 use links::link;
+use network::Grant;
 use network::Request;
 use quotes::quote::quote;
 use rules::Answer;

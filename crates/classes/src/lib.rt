@@ -1,4 +1,4 @@
-// The service classes of document 01: what each kind of job asks for.
+// The service classes of document 01: what each kind of job asks for. The class program and the C interface call it.
 ghost use mathlib.Core.Path.{_≡_};
 ghost use Rattle.classes.specs.Classes.{classAnswer};
 

@@ -1,7 +1,7 @@
 -- After the rounds the table is at or below the kept weight of each walk: each round tries every link at every column,
 -- so it carries a walk on by one link at least, and no relaxation raises a number.
 -- Assumes nothing.
-use mathlib.Core.Path.{_≡_, subst}
+use mathlib.Core.Path.{_≡_}
 use mathlib.Core.Bool.{true}
 use mathlib.Core.List.{List, [], _∷_}
 use Prim.Native.Nat.{ℕ, zero, suc, _+_, _*_, _-_, _≤_, _<_}
@@ -11,26 +11,12 @@ use lib.ListN.{length}
 use Rattle.network.specs.Loops.{iter}
 use Rattle.network.specs.Net.{Net, Ends, Walk, sum}
 use Rattle.network.specs.Problem.{Problem}
-use Rattle.network.proofs.Loops.{iter-keeps, iter-first}
-use Rattle.network.proofs.Tests.{by-eq}
+use Rattle.network.proofs.Loops.{iter-keeps, iter-brings, iter-first}
 use Rattle.ebf.specs.Table.{cell, number, initialised, offered, column, round, roundCount, rounds, ebf}
 use Rattle.ebf.proofs.Good.{Room, Good}
 use Rattle.ebf.proofs.Cells.{cell-inside}
 use Rattle.ebf.proofs.Relaxed.{tailCell, headCell, offer, offered-lower, offered-done}
 use Rattle.ebf.proofs.Sound.{offered-good, column-good, round-good, initialised-good}
-
--- turn j brings P about where Q holds, each turn keeps Q, and each keeps P
-iter-reaches : {A : Type 0} (f : ℕ → A → A) (Q P : A → Type 0) (j n : ℕ) → j < n
-    → ((i : ℕ) (a : A) → i < n → Q a → Q (f i a))
-    → ((a : A) → Q a → P (f j a))
-    → ((i : ℕ) (a : A) → P a → P (f i a))
-    → (a : A) → Q a → P (iter f n a)
-unfolding iter
-iter-reaches f Q P j zero low before brings keeps a h = absurd (omega arith)
-iter-reaches f Q P j (suc n) low before brings keeps a h =
-    by-eq j n
-    (λ e. subst (λ (m : ℕ). P (f m (iter f n a))) e (brings (iter f n a) (iter-keeps f Q n a (λ i b l. before i b (omega arith)) h)))
-    (λ ne. keeps n (iter f n a) (iter-reaches f Q P j n (omega arith) (λ i b l. before i b (omega arith)) brings keeps a h))
 
 -- where each turn only lowers a number, so do they all
 pub iter-lower : (f : ℕ → List ℕ → List ℕ) (c : ℕ) → ((i : ℕ) (l : List ℕ) → number (f i l) c ≤ number l c)
@@ -59,7 +45,7 @@ module _ (g : Net) (q : Problem) where
       column-done : (d : ℕ) (l : List ℕ) → Offers d l → Reached d (column g q k l)
       unfolding column
       column-done d =
-          iter-reaches (offered g q k) (Offers d) (Reached d) i (g .links) listed
+          iter-brings (offered g q k) (Offers d) (Reached d) i (g .links) listed
           (λ j l low h. (offered-good g q ends s k j l low (h .0), omega (arith, offered-lower g q k j l (tailCell g q k i), h .1)))
           (λ l h.
           let low : g .head i < g .nodes = ends .heads i listed in
@@ -72,7 +58,7 @@ module _ (g : Net) (q : Problem) where
       unfolding round
       round-done l good =
           let d : ℕ = offer g q k i l in
-          iter-reaches (column g q) (Offers d) (Reached d) k (q .x + 1) (omega arith)
+          iter-brings (column g q) (Offers d) (Reached d) k (q .x + 1) (omega arith)
           (λ j r low h. (column-good g q ends s j r (h .0), omega (arith, column-lower (tailCell g q k i) j r, h .1)))
           (column-done d) (λ j r h. le-trans (column-lower (headCell g q k i) j r) h) l (good, le-refl _)
 
@@ -89,7 +75,7 @@ module _ (g : Net) (q : Problem) where
         rw (iter-first (round g q) n l) (omega (arith, first, rest))
 
 -- each walk that the problem allows is at or above what the table says
-pub ebf-complete : (g : Net) (q : Problem) → Ends g → (s : ℕ) → s < g .nodes → (l : List ℕ) → Room g q s l
+pub ebf-complete : (g : Net) (q : Problem) → Ends g → (s : ℕ) → s < g .nodes → (l : List ℕ) → Room g q l
     → (t : ℕ) (p : List ℕ) → Walk g s t p → sum (q .scaledBy) p ≤ q .x → length p ≤ g .nodes - 1
     → number (ebf g q s l) (cell (q .x) t (q .x)) ≤ sum (q .kept) p
 unfolding ebf rounds

@@ -15,7 +15,7 @@ use Rattle.network.specs.Problem.{Distance, NoPath}
 use Rattle.network.specs.Cut.{cut}
 use Rattle.network.proofs.Tests.{by-test, by-eq, by-lt, fst-of, snd-of}
 use Rattle.network.proofs.Loops.{iter-keeps, iter-brings, first-passes, first-before}
-use Rattle.network.proofs.NodeSet.{member-empty, member-inserted, member-others}
+use Rattle.network.proofs.NodeSet.{member-empty, member-inserted, member-others, inserted-keeps}
 use Rattle.network.proofs.Short.{path-short}
 use Rattle.network.proofs.Cut.{cut-walk, cut-path}
 use Rattle.ebf.specs.Distance.{leaves, spreadLink, spread, layer, distance}
@@ -31,9 +31,6 @@ walk-snoc g s i [] low u w = (low, u, sym w, refl)
 walk-snoc g s i (j ∷ p) low u w = (w .0, w .1, w .2, walk-snoc g (g .head j) i p low u (w .3))
 
 -- ---- node sets
-inserted-keeps : (a v w : ℕ) → member a w ≡ true → member (inserted a v) w ≡ true
-inserted-keeps a v w h = by-eq v w (λ e. rw e (member-inserted a w)) (λ e. member-others a v w e ∙ h)
-
 inserted-only : (P : ℕ → Type 0) (a v w : ℕ) → P v → (member a w ≡ true → P w) → member (inserted a v) w ≡ true → P w
 inserted-only P a v w here there h = by-eq v w (λ e. rw e at here) (λ e. there (sym (member-others a v w e) ∙ h))
 
@@ -58,9 +55,9 @@ module _ (g : Net) where
     spread-adds : (i : ℕ) → i < g .links → g .usable i ≡ true → member a (g .tail i) ≡ true → member (spread g a) (g .head i) ≡ true
     unfolding spread
     spread-adds i low u h =
-        iter-brings (spreadLink g a) (λ (x : ℕ). member x (g .head i) ≡ true) i
-        (λ m. by-link i m (λ (x : ℕ). member x (g .head i) ≡ true) (λ _ _. member-inserted m (g .head i)) (λ e. absurd (false≢true (sym e ∙ simp (u, h)))))
-        (link-keeps (g .head i)) (g .links) low a
+        iter-brings (spreadLink g a) (λ _. Unit {0}) (λ (x : ℕ). member x (g .head i) ≡ true) i (g .links) low (λ _ _ _ _. tt)
+        (λ m _. by-link i m (λ (x : ℕ). member x (g .head i) ≡ true) (λ _ _. member-inserted m (g .head i)) (λ e. absurd (false≢true (sym e ∙ simp (u, h)))))
+        (link-keeps (g .head i)) a tt
 
     spread-only : (P : ℕ → Type 0) → ((v : ℕ) → member a v ≡ true → P v)
         → ((i : ℕ) → i < g .links → g .usable i ≡ true → member a (g .tail i) ≡ true → P (g .head i))

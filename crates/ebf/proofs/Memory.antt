@@ -32,10 +32,10 @@ both-cond R false taken left = left
 module _ (g : Net) (q : Problem) (s : ℕ) where
   -- every number is the same in both, and every link that a trail may read
   record Same (l l' : List ℕ) : Type 0 where
-    pub room : Room g q s l
-    pub room' : Room g q s l'
-    pub numbers : (v k : ℕ) → v < g .nodes → k ≤ q .x → at g q s l v k ≡ at g q s l' v k
-    pub links : (v k : ℕ) → v < g .nodes → k ≤ q .x → (v ≡ s → ⊥) → at g q s l v k ≤ q .bound → via g q s l v k ≡ via g q s l' v k
+    pub room : Room g q l
+    pub room' : Room g q l'
+    pub numbers : (v k : ℕ) → v < g .nodes → k ≤ q .x → at q l v k ≡ at q l' v k
+    pub links : (v k : ℕ) → v < g .nodes → k ≤ q .x → (v ≡ s → ⊥) → at q l v k ≤ q .bound → via q l v k ≡ via q l' v k
 
   -- ---- a relaxation does the same to both
   put-same : (c d i : ℕ) (l l' : List ℕ) → c < cells (g .nodes) (q .x) → Same l l' → Same (put l c d i) (put l' c d i)
@@ -89,7 +89,7 @@ module _ (g : Net) (q : Problem) (s : ℕ) where
       (λ k l l' k-low. iter-both (offered g q k) Same (g .links) (λ i l l' listed. offered-same ends k i l l' (omega arith) listed) l l') l l')
 
   -- ---- lines 1 to 5 make them so
-  initialised-same : s < g .nodes → (l l' : List ℕ) → Room g q s l → Room g q s l' → Same (initialised g q s l) (initialised g q s l')
+  initialised-same : s < g .nodes → (l l' : List ℕ) → Room g q l → Room g q l' → Same (initialised g q s l) (initialised g q s l')
   initialised-same s-low l l' room room' =
       let good = initialised-good g q s l room s-low in
       let good' = initialised-good g q s l' room' s-low in
@@ -105,25 +105,25 @@ module _ (g : Net) (q : Problem) (s : ℕ) where
   -- ---- two trails along a trace
   module _ (ends : Ends g) (l l' : List ℕ) (same : Same l l') where
     -- where the same link is read, the turn is the same
-    step-same : (v k : ℕ) (p : List ℕ) → via g q s l v k ≡ via g q s l' v k → stepBack g q l s (place g v k p) ≡ stepBack g q l' s (place g v k p)
+    step-same : (v k : ℕ) (p : List ℕ) → via q l v k ≡ via q l' v k → stepBack g q l s (place g v k p) ≡ stepBack g q l' s (place g v k p)
     unfolding stepBack
     step-same v k p e = rw e
 
     -- both follow the trace, where every number is within the bound
-    trails-same : (n d v k : ℕ) (p : List ℕ) → v < g .nodes → k ≤ q .x → at g q s l v k ≤ q .bound → Trace g q s l n v k
+    trails-same : (n d v k : ℕ) (p : List ℕ) → v < g .nodes → k ≤ q .x → at q l v k ≤ q .bound → Trace g q s l n v k
         → iter (λ _. stepBack g q l s) (d + n) (place g v k p) ≡ iter (λ _. stepBack g q l' s) (d + n) (place g v k p)
     trails-same zero d v k p v-low k-low within tr =
-        sym (iter-stays (λ _. stepBack g q l s) 0 d _ _ (iter-none _ _) (λ i. step-home g q s l v k p tr))
-        ∙ iter-stays (λ _. stepBack g q l' s) 0 d _ _ (iter-none _ _) (λ i. step-home g q s l' v k p tr)
+        sym (iter-stays (λ _. stepBack g q l s) 0 d _ _ (iter-none _ _) (λ i. step-home g q s l (place g v k p) tr))
+        ∙ iter-stays (λ _. stepBack g q l' s) 0 d _ _ (iter-none _ _) (λ i. step-home g q s l' (place g v k p) tr)
     trails-same (suc n) d v k p v-low k-low within tr =
-        let i : ℕ = via g q s l v k in
+        let i : ℕ = via q l v k in
         let on = step-on g q s l v k p (tr .0) (tr .1) in
-        let link : i ≡ via g q s l' v k = same .links v k v-low k-low (tr .0) within in
-        let near : at g q s l (g .tail i) (k - q .scaledBy i) ≤ q .bound = omega (arith, tr .1 .falls) in
+        let link : i ≡ via q l' v k = same .links v k v-low k-low (tr .0) within in
+        let near : at q l (g .tail i) (k - q .scaledBy i) ≤ q .bound = omega (arith, tr .1 .falls) in
         rw (add-suc, iter-first (stepBack g q l s), iter-first (stepBack g q l' s), ← step-same v k p link, on)
         (trails-same n d (g .tail i) (k - q .scaledBy i) (i ∷ p) (ends .tails i (tr .1 .listed)) (omega arith) near (tr .2))
 
-    traced-same : Good g q s l → (t : ℕ) → t < g .nodes → at g q s l t (q .x) ≤ q .bound → traced g q l s t ≡ traced g q l' s t
+    traced-same : Good g q s l → (t : ℕ) → t < g .nodes → at q l t (q .x) ≤ q .bound → traced g q l s t ≡ traced g q l' s t
     unfolding traced
     traced-same good t t-low within =
         let tr = good .traced t (q .x) t-low (le-refl _) within in
@@ -138,7 +138,7 @@ module _ (g : Net) (q : Problem) (s : ℕ) where
         rw (← same .numbers t (q .x) t-low (le-refl _))
         (both-cond _≡_ (reached q l t) (λ e. ap (λ st. some (follow g (st .1) t (g .nodes - 1) s)) (traced-same good t t-low (reached-within q l t e))) refl)
 
-pub any-memory : (g : Net) (q : Problem) → Ends g → (s t : ℕ) → s < g .nodes → t < g .nodes → (l l' : List ℕ) → Room g q s l → Room g q s l'
+pub any-memory : (g : Net) (q : Problem) → Ends g → (s t : ℕ) → s < g .nodes → t < g .nodes → (l l' : List ℕ) → Room g q l → Room g q l'
     → solveIn g q s t l ≡ solveIn g q s t l'
 unfolding solveIn ebf
 any-memory g q ends s t s-low t-low l l' room room' =
@@ -146,10 +146,10 @@ any-memory g q ends s t s-low t-low l l' room room' =
     (ebf-good g q ends s s-low l room) t t-low
 
 -- ---- the memory of zeros, by which `solve` is defined
-pub zeros-room : (g : Net) (q : Problem) (s : ℕ) → Room g q s (replicate (2 * cells (g .nodes) (q .x)) 0)
-zeros-room g q s = rw (length-replicate {A = ℕ} (2 * cells (g .nodes) (q .x)) 0) (le-refl _)
+pub zeros-room : (g : Net) (q : Problem) → Room g q (replicate (2 * cells (g .nodes) (q .x)) 0)
+zeros-room g q = rw (length-replicate {A = ℕ} (2 * cells (g .nodes) (q .x)) 0) (le-refl _)
 
-pub any-memory-solves : (g : Net) (q : Problem) → Ends g → (s t : ℕ) → s < g .nodes → t < g .nodes → (l : List ℕ) → Room g q s l
+pub any-memory-solves : (g : Net) (q : Problem) → Ends g → (s t : ℕ) → s < g .nodes → t < g .nodes → (l : List ℕ) → Room g q l
     → solveIn g q s t l ≡ solve g q s t
 unfolding solve
-any-memory-solves g q ends s t s-low t-low l room = any-memory g q ends s t s-low t-low l _ room (zeros-room g q s)
+any-memory-solves g q ends s t s-low t-low l room = any-memory g q ends s t s-low t-low l _ room (zeros-room g q)

@@ -1,7 +1,7 @@
 -- One relaxation either leaves the table or puts a lesser number, found from a number within the bound, at the cell of
 -- the link's head. So it only lowers numbers, and after it the head's is no more than the tail's with the link's weight.
 -- Assumes nothing.
-use mathlib.Core.Path.{_≡_, refl}
+use mathlib.Core.Path.{_≡_}
 use mathlib.Core.Bool.{true, and-eq-true-iff}
 use mathlib.Core.List.{List}
 use Prim.Native.Nat.{ℕ, _+_, _*_, _≤_, _<_}
@@ -14,7 +14,7 @@ use Rattle.network.specs.Problem.{Problem}
 use Rattle.network.proofs.Tests.{by-test, by-lt}
 use Rattle.ebf.specs.Table.{cell, number, put, better, improved, allowed, relaxed, isEdge, offered}
 use Rattle.ebf.proofs.Decided.{small-allowed, allowed-small}
-use Rattle.ebf.proofs.Cells.{length-put, number-put-same, put-lower}
+use Rattle.ebf.proofs.Cells.{number-put-same, put-lower}
 
 -- ---- a link of kept weight w from cell a to cell b
 module _ (a b w bound i : ℕ) (l : List ℕ) where
@@ -69,10 +69,6 @@ module _ (g : Net) (q : Problem) (k i : ℕ) where
     pub offered-lower : (c : ℕ) → number (offered g q k i l) c ≤ number l c
     offered-lower c =
         offered-cases (λ (r : List ℕ). number r c ≤ number l c) (λ u small near less. put-lower l headCell (offer l) i less c) (le-refl _)
-
-    pub offered-length : length (offered g q k i l) ≡ length l
-    offered-length =
-        offered-cases (λ (r : List ℕ). length r ≡ length l) (λ u small near less. length-put l headCell (offer l) i) refl
 
     pub offered-done : g .usable i ≡ true → k + q .scaledBy i ≤ q .x → 2 * headCell + 1 < length l → number l headCell ≤ q .bound + 1
         → number (offered g q k i l) headCell ≤ offer l

@@ -29,10 +29,10 @@ Solved g q s t none = NoSolution g q s t
 
 module _ (g : Net) (q : Problem) (ends : Ends g) (few : g .nodes ≤ 32) (s t : ℕ) (s-low : s < g .nodes) (t-low : t < g .nodes)
     (apart : s ≡ t → ⊥) where
-  module _ (l : List ℕ) (room : Room g q s l) where
+  module _ (l : List ℕ) (room : Room g q l) where
     -- the number that the table says for t
     abbrev told : ℕ
-    told = at g q s (ebf g q s l) t (q .x)
+    told = at q (ebf g q s l) t (q .x)
 
     -- every solution weighs at least that
     least : (o : List ℕ) → Solves g q s t o → told ≤ sum (q .kept) o
@@ -66,4 +66,4 @@ module _ (g : Net) (q : Problem) (ends : Ends g) (few : g .nodes ≤ 32) (s t : 
 
   pub solved : Solved g q s t (solve g q s t)
   unfolding solve
-  solved = solved-in (replicate (2 * cells (g .nodes) (q .x)) 0) (zeros-room g q s)
+  solved = solved-in (replicate (2 * cells (g .nodes) (q .x)) 0) (zeros-room g q)

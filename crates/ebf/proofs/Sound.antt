@@ -12,10 +12,10 @@ use Rattle.network.specs.Net.{Net, Ends}
 use Rattle.network.specs.Problem.{Problem}
 use Rattle.network.proofs.Loops.{iter-keeps}
 use Rattle.network.proofs.Tests.{by-eq}
-use Rattle.ebf.specs.Table.{cell, cells, number, linkAt, put, filled, sourceCells, sourceNumber, initialised, relaxed, offered, column, round, roundCount, rounds, ebf}
+use Rattle.ebf.specs.Table.{cell, cells, number, linkAt, put, filled, sourceCells, sourceNumber, initialised, offered, column, round, roundCount, rounds, ebf}
 use Rattle.ebf.proofs.Good.{at, via, Room, Step, Trace, Good}
 use Rattle.ebf.proofs.Cells.{cell-inside, cell-node, cell-column, length-put, number-put-same, number-put-other, link-put-same, link-put-other, put-lower, length-filled, filled-inside, filled-outside}
-use Rattle.ebf.proofs.Relaxed.{tailCell, headCell, offer, relaxed-cases, offered-cases}
+use Rattle.ebf.proofs.Relaxed.{tailCell, headCell, offer, offered-cases}
 
 module _ (g : Net) (q : Problem) (ends : Ends g) (s : ℕ) where
   -- ---- link i puts its offer at its head
@@ -48,10 +48,10 @@ module _ (g : Net) (q : Problem) (ends : Ends g) (s : ℕ) where
     lower = put-lower l there (offer g q k i l) i less
 
     -- a step at another cell stays
-    step-kept : (v j : ℕ) → (cell (q .x) v j ≡ there → ⊥) → Step g q s l v j (via g q s l v j)
-        → Step g q s after v j (via g q s after v j)
+    step-kept : (v j : ℕ) → (cell (q .x) v j ≡ there → ⊥) → Step g q l v j (via q l v j)
+        → Step g q after v j (via q after v j)
     step-kept v j e h =
-        let i' : ℕ = via g q s l v j in
+        let i' : ℕ = via q l v j in
         rw (old-link (cell (q .x) v j) e)
         (record {
           listed = h .listed;
@@ -62,11 +62,11 @@ module _ (g : Net) (q : Problem) (ends : Ends g) (s : ℕ) where
         })
 
     -- a trace that stays below the old number does not pass the cell that is set
-    trace-kept : (n v j : ℕ) → Trace g q s l n v j → at g q s l v j < number l there → Trace g q s after n v j
+    trace-kept : (n v j : ℕ) → Trace g q s l n v j → at q l v j < number l there → Trace g q s after n v j
     trace-kept zero v j h low = h
     trace-kept (suc n) v j h low =
         let other : cell (q .x) v j ≡ there → ⊥ = λ e. omega (arith, ap (number l) e) in
-        let same : via g q s after v j ≡ via g q s l v j = old-link (cell (q .x) v j) other in
+        let same : via q after v j ≡ via q l v j = old-link (cell (q .x) v j) other in
         (h .0, step-kept v j other (h .1), rw same (trace-kept n _ _ (h .2) (omega (arith, h .1 .falls))))
 
     -- the node that is set is not the source
@@ -107,7 +107,7 @@ module _ (g : Net) (q : Problem) (ends : Ends g) (s : ℕ) where
     trace-moved m tail-trace (suc n) v j low h =
         by-eq (cell (q .x) v j) there (λ e. (suc m, trace-there m v j low e tail-trace))
         (λ e.
-        let same : via g q s after v j ≡ via g q s l v j = old-link (cell (q .x) v j) e in
+        let same : via q after v j ≡ via q l v j = old-link (cell (q .x) v j) e in
         let rest = trace-moved m tail-trace n _ _ (omega arith) (h .2) in
         (suc (rest .0), (h .0, step-kept v j e (h .1), rw same (rest .1))))
 
@@ -128,9 +128,6 @@ module _ (g : Net) (q : Problem) (ends : Ends g) (s : ℕ) where
         }
 
   -- ---- what a relaxation keeps, the rounds keep
-  pub relaxed-good : (k i : ℕ) (l : List ℕ) → i < g .links → g .usable i ≡ true → Good g q s l → Good g q s (relaxed g q k i l)
-  relaxed-good k i l listed u good = relaxed-cases g q k i l (Good g q s) (put-good k i l good listed u) good
-
   pub offered-good : (k i : ℕ) (l : List ℕ) → i < g .links → Good g q s l → Good g q s (offered g q k i l)
   offered-good k i l listed good = offered-cases g q k i l (Good g q s) (put-good k i l good listed) good
 
@@ -143,7 +140,7 @@ module _ (g : Net) (q : Problem) (ends : Ends g) (s : ℕ) where
   round-good l = iter-keeps (column g q) (Good g q s) (q .x + 1) l (λ k r _. column-good k r)
 
 -- ---- lines 1 to 5
-module _ (g : Net) (q : Problem) (s : ℕ) (l : List ℕ) (room : Room g q s l) where
+module _ (g : Net) (q : Problem) (s : ℕ) (l : List ℕ) (room : Room g q l) where
   -- a cell of a node other than the source was not reached
   pub initialised-far : (v k : ℕ) → v < g .nodes → k ≤ q .x → (v ≡ s → ⊥) → number (initialised g q s l) (cell (q .x) v k) ≡ q .bound + 1
   unfolding initialised cell
@@ -177,7 +174,7 @@ module _ (g : Net) (q : Problem) (s : ℕ) (l : List ℕ) (room : Room g q s l) 
       }
 
 -- ---- lines 20 to 24
-pub ebf-good : (g : Net) (q : Problem) → Ends g → (s : ℕ) → s < g .nodes → (l : List ℕ) → Room g q s l → Good g q s (ebf g q s l)
+pub ebf-good : (g : Net) (q : Problem) → Ends g → (s : ℕ) → s < g .nodes → (l : List ℕ) → Room g q l → Good g q s (ebf g q s l)
 unfolding ebf rounds
 ebf-good g q ends s s-low l room =
     iter-keeps (λ _. round g q) (Good g q s) (roundCount g) (initialised g q s l) (λ _ r _. round-good g q ends s r)

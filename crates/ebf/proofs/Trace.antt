@@ -28,10 +28,10 @@ place g v k p = (record { node = v; column = k; left = notes g p .left }, notes 
 module _ (g : Net) (q : Problem) (s : ℕ) (l : List ℕ) where
   -- where the link kept at a cell comes from: its node and column
   abbrev before : ℕ → ℕ → ℕ
-  before v k = g .tail (via g q s l v k)
+  before v k = g .tail (via q l v k)
 
   abbrev left : ℕ → ℕ → ℕ
-  left v k = k - q .scaledBy (via g q s l v k)
+  left v k = k - q .scaledBy (via q l v k)
 
   -- ---- a trace has no more links than the table has cells
   -- a trace is as long as its cell says
@@ -87,20 +87,20 @@ module _ (g : Net) (q : Problem) (s : ℕ) (l : List ℕ) where
 
   -- ---- the turns
   -- at the source the trail stays
-  pub step-home : (v k : ℕ) (p : List ℕ) → v ≡ s → stepBack g q l s (place g v k p) ≡ place g v k p
+  pub step-home : (st : Trail × List ℕ) → st .0 .node ≡ s → stepBack g q l s st ≡ st
   unfolding stepBack
-  step-home v k p e = simp (eq-eqb v s e)
+  step-home st e = simp (eq-eqb _ _ e)
 
   -- elsewhere it takes the link kept there
-  pub step-on : (v k : ℕ) (p : List ℕ) → (v ≡ s → ⊥) → Step g q s l v k (via g q s l v k)
-      → stepBack g q l s (place g v k p) ≡ place g (before v k) (left v k) (via g q s l v k ∷ p)
+  pub step-on : (v k : ℕ) (p : List ℕ) → (v ≡ s → ⊥) → Step g q l v k (via q l v k)
+      → stepBack g q l s (place g v k p) ≡ place g (before v k) (left v k) (via q l v k ∷ p)
   unfolding stepBack trailBack
   step-on v k p other st = simp (ne-eqb v s other, lt-leb _ _ (st .listed), le-ltb _ _ (st .room))
 
   -- what the turns along a trace from v and k give, where the links of p led on to t
   record Trailed (t v k : ℕ) (p next r : List ℕ) : Type 0 where
     pub walk : Walk g s t r
-    pub kept : sum (q .kept) r ≤ at g q s l v k + sum (q .kept) p
+    pub kept : sum (q .kept) r ≤ at q l v k + sum (q .kept) p
     pub scaled : sum (q .scaledBy) r ≤ k + sum (q .scaledBy) p
     pub noted : next ≡ notes g r .next
 
@@ -113,11 +113,11 @@ module _ (g : Net) (q : Problem) (s : ℕ) (l : List ℕ) where
       kept = omega arith;
       scaled = omega arith;
       noted = ap (λ (st : Trail × List ℕ). st .1)
-          (sym (iter-stays (λ _. stepBack g q l s) 0 d (place g v k p) (place g v k p) (iter-none _ _) (λ i. step-home v k p tr)));
+          (sym (iter-stays (λ _. stepBack g q l s) 0 d (place g v k p) (place g v k p) (iter-none _ _) (λ i. step-home (place g v k p) tr)));
     },
   )
   trailed (suc n) d t v k p tr w =
-      let i : ℕ = via g q s l v k in
+      let i : ℕ = via q l v k in
       let onward : Walk g (g .tail i) t (i ∷ p) = (tr .1 .listed, tr .1 .usable, refl, rw (tr .1 .leads) w) in
       let rest = trailed n d t (g .tail i) (k - q .scaledBy i) (i ∷ p) (tr .2) onward in
       let turn : iter (λ _. stepBack g q l s) (d + suc n) (place g v k p) ≡ iter (λ _. stepBack g q l s) (d + n) (place g (before v k) (left v k) (i ∷ p)) =
@@ -134,12 +134,12 @@ module _ (g : Net) (q : Problem) (s : ℕ) (l : List ℕ) where
   -- ---- the whole trail: a walk to t within the table's number and x, and its notes
   pub record IsTrail (t : ℕ) (p : List ℕ) : Type 0 where
     pub walk : Walk g s t p
-    pub kept : sum (q .kept) p ≤ at g q s l t (q .x)
+    pub kept : sum (q .kept) p ≤ at q l t (q .x)
     pub scaled : sum (q .scaledBy) p ≤ q .x
     pub noted : traced g q l s t .1 ≡ notes g p .next
 
 pub trail-walk : (g : Net) (q : Problem) → Ends g → (s : ℕ) (l : List ℕ) → Good g q s l → (t : ℕ) → t < g .nodes
-    → at g q s l t (q .x) ≤ q .bound
+    → at q l t (q .x) ≤ q .bound
     → (p : List ℕ) × IsTrail g q s l t p
 unfolding traced
 trail-walk g q ends s l good t t-low within =

@@ -21,6 +21,6 @@ spread g set = iter (spreadLink g set) (g .links) set
 unfoldable pub layer : Net → ℕ → ℕ → ℕ
 layer g s k = iter (λ _. spread g) k (inserted 0 s)
 
--- the number of nodes where there is no path: a path has fewer links
+-- the first layer that t is in, or the number of nodes where there is no path: a path has fewer links
 unfoldable pub distance : Net → ℕ → ℕ → ℕ
 distance g s t = first (λ k. member (layer g s k) t) (g .nodes)

@@ -1,16 +1,25 @@
 // The bookings and the free units at the end of a run, printed.
 ghost use Prim.Native.Nat.{_<_, _≤_};
+use crate::output;
 use area_words::layout;
 use libc::STDOUT_FILENO;
 use links::link;
+use station::reads;
 
 // The circuit at word `at`: its number, its units and its path. The last place of an area begins at word 3425.
 fn circuit(area: &[u32; 3459], at: usize)
     requires { ⌜ at ≤ 3425 ⌝ }
 {
+    let mut text = [0u8; 364];
+    let end = text::put_fields(&mut text, 0, layout::part(area, at, 2));
+    let behind = answer_lines::put_path(
+        &mut text,
+        end,
+        layout::part(area, at + 3, 31),
+        area[at + 2],
+    );
     io::write_all(STDOUT_FILENO, b"circuit");
-    answer_lines::write_fields(layout::part(area, at, 2));
-    answer_lines::write_path(layout::part(area, at + 3, 31), area[at + 2]);
+    output::write_text(&text, behind);
 }
 
 // The circuit at place `j`, where one is held. The loop over the area counts its 64 places.
@@ -30,10 +39,19 @@ pub(crate) fn circuits_held(area: &[u32; 3459]) {
     }
 }
 
+// The line of a link: its number and its free units.
+fn free(area: &[u32; 3459], link: u32) {
+    let mut text = [0u8; 34];
+    let end = text::put_field(&mut text, 0, link);
+    let behind = answer_lines::put_reading(&mut text, end, reads::free_units(area, link));
+    io::write_all(STDOUT_FILENO, b"free");
+    output::write_text(&text, behind);
+}
+
 // Of each link of net A.
 pub(crate) fn every_free(area: &[u32; 3459]) {
-    answer_lines::write_free(b"free 0", area, 0);
-    answer_lines::write_free(b"free 1", area, 1);
-    answer_lines::write_free(b"free 2", area, 2);
-    answer_lines::write_free(b"free 3", area, 3);
+    free(area, 0);
+    free(area, 1);
+    free(area, 2);
+    free(area, 3);
 }

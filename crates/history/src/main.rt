@@ -19,11 +19,19 @@ ghost use Rattle.cases.specs.Cases.{linksA};
 ghost use Rattle.call_list.specs.Calls.{calls};
 
 mod bookings;
+mod output;
 
 use call_runs::list::every_call;
 use cases::NET_A;
 use libc::STDOUT_FILENO;
+use loading::Loading;
 use loading::load::load;
+
+fn write_loading(loading: Loading) {
+    let mut text = [0u8; 13];
+    let end = answer_lines::put_loading(&mut text, 0, loading);
+    output::write_text(&text, end);
+}
 
 // Loads net A, which every area of this length takes.
 fn load_net(area: &mut [u32; 3459])
@@ -31,7 +39,7 @@ fn load_net(area: &mut [u32; 3459])
     ensures area { λ _. ⌜ now (area .exit) ≡ areaLoaded (now (area .entry)) 4 linksA ⌝ }
 {
     let links = NET_A;
-    answer_lines::write_loading(load(4, &links, area));
+    write_loading(load(4, &links, area));
 }
 
 // The list from a load on, and what is then held and free.

@@ -13,7 +13,8 @@ use Rattle.ebf.specs.Search.{tried, search}
 use Rattle.area.specs.Station.{tableIn, circuitOf}
 use Rattle.rules.specs.Replies.{refuses, grants, releases}
 use Rattle.rules.specs.Calls.{quote, admission, booked, release, cleared}
-use Rattle.instances.specs.Nets.{three, between, asks, m1, m3, m4}
+use Rattle.cases.specs.Cases.{between, asks, m3, three}
+use Rattle.instances.specs.Nets.{m1, m4}
 use Rattle.instances.specs.Areas.{freshA, heldA, twoA}
 
 -- an area that is not well formed, too little work memory, too short a path buffer, the same source and target, more

@@ -35,58 +35,58 @@ use Rattle.station.proofs.ReadCases.{links-few}
 use Rattle.rules.specs.Requests.{requestFits}
 use Rattle.rules.specs.Replies.{Reply, refuses, grants, replyOf}
 use Rattle.rules.specs.Calls.{booksIn, numberFits, sought, admission, booked}
-use Rattle.rules.proofs.Passed.{count-is}
+use Rattle.rules.proofs.Facts.{count-is}
 use Rattle.rules.proofs.Bookings.{admitted-formed}
 use Rattle.rules.proofs.Depends.{choice-depends}
 use Rattle.rules.proofs.CallCases.{Passed, fails-12, searches}
 use Rattle.ledger.specs.Ledger.{admitting}
 use Rattle.ledger.specs.History.{Lending, Event, history, replyTo, areaAfter, areaAtEnd}
-use Rattle.instances.specs.Nets.{between}
-use Rattle.instances.specs.Areas.{blank, circuit, line, row, filled}
+use Rattle.cases.specs.Cases.{blank, between}
+use Rattle.instances.specs.Areas.{circuit, oneLink, circuitsTo, filled}
 
 -- one unit over the only link
 abbrev pub asked : Request
 asked = between 0 1 1 8 20 8
 
 -- the reply to each of the admissions
-abbrev pub byLine : Reply
-byLine = grants 1 2 5 (0 ∷ [])
+abbrev pub byLink : Reply
+byLink = grants 1 2 5 (0 ∷ [])
 
 abbrev pub Granted : List Event → Type 0
-Granted = All (λ e. e .reply ≡ byLine)
+Granted = All (λ e. e .reply ≡ byLink)
 
 -- ---- the circuits 1 to k
-row-length : (k : ℕ) → length (row k) ≡ k
-row-length zero = refl
-row-length (suc k) = ap suc (row-length k)
+circuits-length : (k : ℕ) → length (circuitsTo k) ≡ k
+circuits-length zero = refl
+circuits-length (suc k) = ap suc (circuits-length k)
 
-row-usage : (k : ℕ) → usage (row k) 0 ≡ k
-row-usage zero = refl
-row-usage (suc k) = omega (arith, row-usage k)
+circuits-usage : (k : ℕ) → usage (circuitsTo k) 0 ≡ k
+circuits-usage zero = refl
+circuits-usage (suc k) = omega (arith, circuits-usage k)
 
-row-holds : (k c : ℕ) → k < c → holds (row k) c ≡ false
-row-holds zero c low = refl
-row-holds (suc k) c low = rw (ne-eqb c (suc k) λ e. omega (arith, e)) (row-holds k c (omega arith))
+circuits-holds : (k c : ℕ) → k < c → holds (circuitsTo k) c ≡ false
+circuits-holds zero c low = refl
+circuits-holds (suc k) c low = rw (ne-eqb c (suc k) λ e. omega (arith, e)) (circuits-holds k c (omega arith))
 
 -- ---- what the area holds
-abbrev lined : ℕ → Station
-lined k = record { table = tableOf 2 line; held = row k }
+abbrev holding : ℕ → Station
+holding k = record { table = tableOf 2 oneLink; held = circuitsTo k }
 
 record Reached (k : ℕ) : Type 0 where
-  is : station (filled k) ≡ lined k
+  is : station (filled k) ≡ holding k
   formed : WellFormed (filled k)
 
-pub line-accepted : loadAnswer blank 2 line ≡ Loaded
+pub link-accepted : loadAnswer blank 2 oneLink ≡ Loaded
 unfolding loadAnswer
-line-accepted = refl
+link-accepted = refl
 
 at-first : Reached 0
 unfolding filled
 at-first =
-    record { is = accepted-station blank 2 line line-accepted; formed = accepted-formed blank 2 line line-accepted }
+    record { is = accepted-station blank 2 oneLink link-accepted; formed = accepted-formed blank 2 oneLink link-accepted }
 
 -- a request sees the same network, as long as a unit is free
-alike : (k : ℕ) → k < 65535 → Alike (net (books (lined k)) 1) (net (books (lined 0)) 1)
+alike : (k : ℕ) → k < 65535 → Alike (net (books (holding k)) 1) (net (books (holding 0)) 1)
 unfolding net books
 alike k low =
     record {
@@ -99,25 +99,25 @@ alike k low =
       cost = λ i l. refl;
     }
   where
-    usable : (i : ℕ) → i < 1 → net (books (lined k)) 1 .usable i ≡ net (books (lined 0)) 1 .usable i
-    usable zero l = le-leb 1 (65535 - usage (row k) 0) (omega (arith, row-usage k))
+    usable : (i : ℕ) → i < 1 → net (books (holding k)) 1 .usable i ≡ net (books (holding 0)) 1 .usable i
+    usable zero l = le-leb 1 (65535 - usage (circuitsTo k) 0) (omega (arith, circuits-usage k))
     usable (suc i) l = absurd (omega (arith, l))
 
-first-found : search (net (books (lined 0)) 1) asked ≡ granted 1 (0 ∷ [])
+first-found : search (net (books (holding 0)) 1) asked ≡ granted 1 (0 ∷ [])
 unfolding net books search tried solve solveIn answerIn pathIn ebf rounds round column offered relaxed improved initialised filledCells cell cells traced stepBack trailBack noted follow distance layer spread problemOne problemTwo scaled member inserted iter first
 first-found = refl
 
-found : (k : ℕ) → k < 65535 → sought (books (lined k)) asked ≡ byLine
+found : (k : ℕ) → k < 65535 → sought (books (holding k)) asked ≡ byLink
 unfolding sought books
 found k low =
-    ap (replyOf (net (books (lined k)) 1))
-    (choice-depends (books (lined k)) (books (lined 0)) asked (alike k low) ∙ first-found)
+    ap (replyOf (net (books (holding k)) 1))
+    (choice-depends (books (holding k)) (books (holding 0)) asked (alike k low) ∙ first-found)
 
 -- the circuit after them has a new number
-new : (k : ℕ) → k < 65535 → numberFits (books (lined k)) (suc k) ≡ true
+new : (k : ℕ) → k < 65535 → numberFits (books (holding k)) (suc k) ≡ true
 unfolding numberFits books
 new k low =
-    both _ _ (range-test 1 65535 (suc k) (omega arith) (omega arith)) (ap not (row-holds k (suc k) (omega arith)))
+    both _ _ (range-test 1 65535 (suc k) (omega arith) (omega arith)) (ap not (circuits-holds k (suc k) (omega arith)))
 
 -- ---- one admission more, whatever work memory and path buffer it is lent
 module _ (work room : ℕ) (memory : 16384 ≤ work) (buffer : 31 ≤ room) (k : ℕ) (here : Reached k) where
@@ -129,12 +129,12 @@ module _ (work room : ℕ) (memory : 16384 ≤ work) (buffer : 31 ≤ room) (k :
 
   held : booksIn (filled k) .count ≡ k
   unfolding books
-  held = ap (λ (s : Station). length (s .held)) (here .is) ∙ row-length k
+  held = ap (λ (s : Station). length (s .held)) (here .is) ∙ circuits-length k
 
   fits : k < 65535 → numberFits (booksIn (filled k)) (suc k) ≡ true
   fits low = subst (λ (s : Station). numberFits (books s) (suc k) ≡ true) (sym (here .is)) (new k low)
 
-  next-granted : k < 64 → admission (filled k) work room (suc k) asked ≡ byLine
+  next-granted : k < 64 → admission (filled k) work room (suc k) asked ≡ byLink
   next-granted low =
       let room-left : getD (filled k) 2 0 < 64 = omega (arith, held, count-is (filled k)) in
       sym (searches (filled k) work room (suc k) asked passed (fits (omega arith)) room-left)
@@ -198,12 +198,12 @@ module _ (work room : List ℕ) (memory : 16384 ≤ length work) (buffer : 31 �
       )
 
   -- circuits 1 to 64 are granted
-  pub all-granted : Granted (history (areaLoaded blank 2 line) (calls 0 64))
+  pub all-granted : Granted (history (areaLoaded blank 2 oneLink) (calls 0 64))
   unfolding filled
   all-granted = granted-all 0 64 (omega arith)
 
   -- and after them circuit 65 is refused with 12
-  pub then-twelve : replyTo (areaAtEnd (areaLoaded blank 2 line) (calls 0 64)) (call 65) ≡ refuses 12
+  pub then-twelve : replyTo (areaAtEnd (areaLoaded blank 2 oneLink) (calls 0 64)) (call 65) ≡ refuses 12
   unfolding filled
   then-twelve =
       ap (λ (w : List ℕ). replyTo w (call 65)) (booked-all 0 64 (omega arith))

@@ -6,6 +6,7 @@ use mathlib.Core.Path.{_≡_, refl}
 use mathlib.Core.List.{List, [], _∷_, map}
 use native.Mathlib.Omega.{arith}
 use lib.ListN.{length}
+use Rattle.network.proofs.Tests.{zero-one}
 use Rattle.network.specs.Loops.{iter, first}
 use Rattle.network.specs.Scale.{scaled}
 use Rattle.network.specs.Cut.{noted, follow}
@@ -24,9 +25,8 @@ use Rattle.ledger.specs.Ledger.{admitting, releasing}
 use Rattle.ledger.specs.History.{Lending, Event, history, answers, areaAtEnd, bookings, Struck, end, strike, keep, remaining}
 use Rattle.ledger.specs.Demand.{ThirdDemand}
 use Rattle.ledger.proofs.Demands.{third-demand}
-use Rattle.cases.specs.Cases.{linksA}
-use Rattle.instances.specs.Nets.{three, m3}
-use Rattle.instances.specs.Areas.{blank, circuit}
+use Rattle.cases.specs.Cases.{blank, linksA, m3, three}
+use Rattle.instances.specs.Areas.{circuit}
 use Rattle.instances.specs.Calls.{work, room, calls, replies, unquoted}
 
 -- ---- the third demand's premise is met, so it holds of the list
@@ -66,4 +66,4 @@ admission-stays s = omega (arith, kept s)
 
 -- and a call that remains keeps its numbers
 pub number-stays : Struck (releasing 7 ∷ []) (releasing 8 ∷ []) → ⊥
-number-stays (keep e end) = let z : _≡_ {A = ℕ} 7 8 = cc in omega (arith, z)
+number-stays (keep e end) = zero-one cc

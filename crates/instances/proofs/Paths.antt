@@ -2,7 +2,7 @@
 -- Assumes nothing.
 use Prim.Native.Nat.{ℕ, _≤_}
 use mathlib.Core.Path.{_≡_, refl, sym, _∙_}
-use mathlib.Core.Bool.{true, false, true≢false}
+use mathlib.Core.Bool.{false, true≢false}
 use mathlib.Core.List.{List, [], _∷_}
 use native.Mathlib.Omega.{arith}
 use lib.ListN.{length}
@@ -10,7 +10,8 @@ use Rattle.network.specs.Net.{Net, Walk, IsPath, isPathb}
 use Rattle.network.specs.Problem.{NoPath, Distance}
 use Rattle.network.specs.Words.{netOf}
 use Rattle.network.proofs.Paths.{walk-of, path-of, path-test}
-use Rattle.instances.specs.Nets.{netA, netB, shutA, three, straight}
+use Rattle.cases.specs.Cases.{three}
+use Rattle.instances.specs.Nets.{netA, netB, shutA, straight}
 
 -- a list whose test fails is no path
 pub no-path : (g : Net) (s t : ℕ) (p : List ℕ) → isPathb g s t p ≡ false → IsPath g s t p → ⊥

@@ -13,8 +13,7 @@ use Rattle.area_fit.specs.Ready.{Held}
 use Rattle.area_check.specs.FreeIn.{freeIn}
 use Rattle.rules.specs.Requests.{requestFits}
 use Rattle.seek.specs.Ready.{Seekable}
-use Rattle.cases.specs.Cases.{linksA}
-use Rattle.instances.specs.Nets.{m3}
+use Rattle.cases.specs.Cases.{linksA, m3}
 use Rattle.instances.specs.Areas.{freshA, heldA}
 use Rattle.instances.specs.Calls.{work, room}
 use Rattle.instances.proofs.Areas.{fresh-formed, held-formed}

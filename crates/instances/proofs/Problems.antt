@@ -24,8 +24,8 @@ use Rattle.ebf.proofs.Solved.{Solved, solved}
 use Rattle.area.specs.Formed.{LinkFits, linksFit}
 use Rattle.area.proofs.Formed.{links-says}
 use Rattle.loading.specs.Load.{tableOf}
-use Rattle.cases.specs.Cases.{linksA}
-use Rattle.instances.specs.Nets.{netA, shutA, three, straight, m1, m2, m3, m4, m6}
+use Rattle.cases.specs.Cases.{linksA, m2, m3, three}
+use Rattle.instances.specs.Nets.{netA, shutA, straight, m1, m4, m6}
 use Rattle.instances.proofs.Paths.{three-path, straight-path, distance-one, shut-no-path}
 
 -- ---- what the search answers
@@ -129,7 +129,7 @@ pub straight-over : WithinBounds netA m3 straight → ⊥
 unfolding netOf
 straight-over h = let over = h .delay in omega (arith, over)
 
--- ---- what a search must find: each of the four outcomes, and for M3 no other path of problem one
+-- ---- what a search must find: each of the four outcomes, and for M3 not that there is no solution
 pub found-none : Found shutA m3 no-path
 found-none = Found.none shut-no-path
 

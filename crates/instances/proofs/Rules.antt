@@ -18,15 +18,15 @@ use Rattle.rules.specs.Replies.{refuses}
 use Rattle.rules.specs.Rules.{NumberFits}
 use Rattle.rules.specs.Calls.{booksIn, numberFits}
 use Rattle.rules.specs.Meaning.{netFor}
-use Rattle.rules.proofs.Passed.{granted-not-refused}
+use Rattle.rules.proofs.Facts.{granted-not-refused}
 use Rattle.rules.proofs.Meaning.{request-says, number-says}
 use Rattle.ledger.specs.Ledger.{quoting, opened, checks, Refuses}
 use Rattle.ledger.specs.Sentences.{Passes, Solvable, Overqualifies}
 use Rattle.ledger.specs.Demand.{ThirdDemand, GrantedPath}
 use Rattle.ledger.proofs.Demands.{third-demand, any-quote}
-use Rattle.cases.specs.Cases.{linksA}
-use Rattle.instances.specs.Nets.{netA, three, between, m1, m3}
-use Rattle.instances.specs.Areas.{blank, freshA, heldA}
+use Rattle.cases.specs.Cases.{blank, linksA, between, m3, three}
+use Rattle.instances.specs.Nets.{netA, m1}
+use Rattle.instances.specs.Areas.{freshA, heldA}
 use Rattle.instances.specs.Calls.{work, room}
 use Rattle.instances.proofs.Paths.{three-path, distance-one}
 use Rattle.instances.proofs.Problems.{m1-none-one, m1-none-two, m3-solves, m3-enough, found-unsolved}

@@ -3,7 +3,7 @@
 -- Assumes nothing.
 use Prim.Native.Nat.{ℕ, zero, suc, _+_, _≤_, _<_}
 use mathlib.Core.Path.{_≡_, refl, sym, ap}
-use mathlib.Core.Bool.{true, false, true≢false}
+use mathlib.Core.Bool.{true≢false}
 use mathlib.Core.List.{List, [], _∷_}
 use native.Mathlib.Omega.{arith}
 use borrow.Author.Tests.{leb-true}
@@ -22,8 +22,8 @@ use Rattle.ebf.specs.Settled.{SettledColumn}
 use Rattle.route.specs.Ready.{Ready}
 use Rattle.route.specs.Result.{Searchable}
 use Rattle.route.proofs.Result.{ready-searchable}
-use Rattle.cases.specs.Cases.{linksA}
-use Rattle.instances.specs.Nets.{netA, shutA, between, m3}
+use Rattle.cases.specs.Cases.{linksA, between, m3}
+use Rattle.instances.specs.Nets.{netA, shutA}
 use Rattle.instances.proofs.Problems.{links-fit}
 
 -- ---- the ranges and lengths

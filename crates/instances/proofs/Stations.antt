@@ -8,8 +8,8 @@ use Rattle.loading.specs.declared.Loading.the-variants as loading
 use Rattle.station.specs.declared.Reading.the-variants.{Refused, Value}
 use Rattle.loading.specs.Load.{loadAnswer, areaLoaded}
 use Rattle.station.specs.Reads.{listAnswer, listed, freeAnswer}
-use Rattle.cases.specs.Cases.{linksA}
-use Rattle.instances.specs.Areas.{blank, heldA, twoA}
+use Rattle.cases.specs.Cases.{blank, linksA}
+use Rattle.instances.specs.Areas.{heldA, twoA}
 
 -- an area that is a word too short, one node and 33, words that are no whole link and words of 257 links, a link to a
 -- node that is not there; net A is loaded, and a refused load changes nothing

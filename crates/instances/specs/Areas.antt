@@ -2,16 +2,11 @@
 -- Assumes nothing.
 use Prim.Native.Nat.{ℕ, zero, suc}
 use mathlib.Core.List.{List, [], _∷_}
-use lib.ListN.{replicate}
 use Rattle.area.specs.Station.{Circuit}
 use Rattle.area.specs.Moves.{added}
 use Rattle.loading.specs.Load.{areaLoaded}
-use Rattle.cases.specs.Cases.{linksA, linksB}
-use Rattle.instances.specs.Nets.{three, straight}
-
--- an area of zeros, as short as it may be
-abbrev pub blank : List ℕ
-blank = replicate 3459 0
+use Rattle.cases.specs.Cases.{linksA, linksB, blank, three}
+use Rattle.instances.specs.Nets.{straight}
 
 -- net A and net B loaded
 unfoldable pub freshA : List ℕ
@@ -36,14 +31,14 @@ unfolding heldA
 twoA c u = added heldA (circuit c u straight)
 
 -- two nodes and one link of capacity 65,535, with circuits 1 to k of one unit, the last admitted first
-abbrev pub line : List ℕ
-line = 0 ∷ 1 ∷ 2 ∷ 5 ∷ 65535 ∷ []
+abbrev pub oneLink : List ℕ
+oneLink = 0 ∷ 1 ∷ 2 ∷ 5 ∷ 65535 ∷ []
 
-abbrev pub row : ℕ → List Circuit
-row zero = []
-row (suc k) = circuit (suc k) 1 (0 ∷ []) ∷ row k
+abbrev pub circuitsTo : ℕ → List Circuit
+circuitsTo zero = []
+circuitsTo (suc k) = circuit (suc k) 1 (0 ∷ []) ∷ circuitsTo k
 
 unfoldable pub filled : ℕ → List ℕ
 unfolding areaLoaded added
-filled zero = areaLoaded blank 2 line
+filled zero = areaLoaded blank 2 oneLink
 filled (suc k) = added (filled k) (circuit (suc k) 1 (0 ∷ []))

@@ -8,7 +8,8 @@ use Rattle.network.specs.declared.Request.{Request}
 use Rattle.rules.specs.Replies.{Reply, refuses, grants, releases}
 use Rattle.ledger.specs.Ledger.{quoting, admitting, releasing}
 use Rattle.ledger.specs.History.{Lending}
-use Rattle.instances.specs.Nets.{three, between, asks, m3, m4}
+use Rattle.cases.specs.Cases.{between, asks, m3, three}
+use Rattle.instances.specs.Nets.{m4}
 
 -- work memory and path buffer of the lengths asked for, filled with a number
 abbrev pub work : ℕ → List ℕ

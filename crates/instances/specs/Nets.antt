@@ -1,4 +1,5 @@
--- What the instances are about: document 01's net A and net B as networks, and its requests.
+-- What the instances are about: document 01's net A and net B as networks, and requests on net A beside those that
+-- `cases` names.
 -- Assumes nothing.
 use Prim.Native.Nat.{ℕ}
 use mathlib.Core.List.{List, [], _∷_}
@@ -6,7 +7,7 @@ use lib.ListN.{replicate}
 use Rattle.network.specs.Net.{Net}
 use Rattle.network.specs.Words.{netOf}
 use Rattle.network.specs.declared.Request.{Request}
-use Rattle.cases.specs.Cases.{linksA, linksB}
+use Rattle.cases.specs.Cases.{linksA, linksB, asks}
 
 -- ---- the networks
 -- every link is usable
@@ -23,30 +24,13 @@ abbrev pub shutA : Net
 unfolding netOf
 shutA = netOf 4 4 linksA []
 
--- ---- the paths of net A from 0 to 3
-abbrev pub three : List ℕ
-three = 0 ∷ 1 ∷ 2 ∷ []
-
+-- ---- the path of net A from 0 to 3 by link 3; `three` of `cases` is the other
 abbrev pub straight : List ℕ
 straight = 3 ∷ []
 
--- ---- the requests: from, to, units, the bounds of delay and cost, the coefficient
-abbrev pub between : ℕ → ℕ → ℕ → ℕ → ℕ → ℕ → Request
-between s t b d c f =
-    record { source = s; target = t; units = b; «delay_bound» = d; «cost_bound» = c; coefficient = f }
-
--- from 0 to 3
-abbrev pub asks : ℕ → ℕ → ℕ → ℕ → Request
-asks b d c f = between 0 3 b d c f
-
+-- ---- the requests of M1, M4 and M6; `cases` has those of M2 and M3
 abbrev pub m1 : Request
 m1 = asks 1 8 20 5
-
-abbrev pub m2 : Request
-m2 = asks 1 8 20 6
-
-abbrev pub m3 : Request
-m3 = asks 1 8 20 8
 
 abbrev pub m4 : Request
 m4 = asks 1 8 15 8

@@ -22,11 +22,12 @@ use Rattle.ledger.specs.Ledger.{Call, opened}
 use Rattle.ledger.specs.History.{Lending, history}
 use Rattle.ledger.specs.Demand.{PathsGranted, Throughout, ThirdDemand, SecondDemand}
 use Rattle.ledger.proofs.Steps.{Says}
+use Rattle.ledger.proofs.Given.{answers-given}
 use Rattle.ledger.proofs.Places.{refused-as, not-five, answered, exactly-refused, enough-granted, paths-granted, paths-past-five}
-use Rattle.ledger.proofs.Histories.{followed, ends-agree, at-every, Twins, struck-answers, struck-ends}
+use Rattle.ledger.proofs.Histories.{followed, ends-agree, at-every, Agreeing, struck-answers, struck-ends}
 
 module _ (n : ℕ) (links : List ℕ) where
-  -- ---- an accepted load: the ledger opens in agreement with the area, and so are any two areas
+  -- ---- an accepted load: the ledger opens in agreement with the area, so any two such areas agree
   module _ (w : List ℕ) (accepted : loadAnswer w n links ≡ Loaded) where
     opens : Agrees (station (areaLoaded w n links)) (opened n links)
     opens = agrees-eq (accepted-station w n links accepted)
@@ -43,8 +44,8 @@ module _ (n : ℕ) (links : List ℕ) where
         → Throughout w n links cs P
     throughout P one cs = at-every P one (opened n links) (history (areaLoaded w n links) cs) (said cs)
 
-  twins : (w v : List ℕ) → loadAnswer w n links ≡ Loaded → loadAnswer v n links ≡ Loaded → Twins (areaLoaded w n links) (areaLoaded v n links)
-  twins w v accepted accepted' =
+  agreeing : (w v : List ℕ) → loadAnswer w n links ≡ Loaded → loadAnswer v n links ≡ Loaded → Agreeing (areaLoaded w n links) (areaLoaded v n links)
+  agreeing w v accepted accepted' =
       record {
         first = formed w accepted;
         second = formed v accepted';
@@ -60,11 +61,12 @@ module _ (n : ℕ) (links : List ℕ) where
           no-five = throughout w accepted _ not-five cs;
           exactly = throughout w accepted _ exactly-refused cs;
           granted = throughout w accepted _ answered cs;
+          answered = answers-given (areaLoaded w n links) cs;
           books = ends-agree (areaLoaded w n links) (opened n links) (formed w accepted) (opens w accepted) cs .held;
           enough = throughout w accepted _ enough-granted cs;
           struck = λ v accepted' ds s. (
-            struck-answers (areaLoaded w n links) (areaLoaded v n links) (twins w v accepted accepted') s,
-            struck-ends (areaLoaded w n links) (areaLoaded v n links) (twins w v accepted accepted') s .held,
+            struck-answers (areaLoaded w n links) (areaLoaded v n links) (agreeing w v accepted accepted') s,
+            struck-ends (areaLoaded w n links) (areaLoaded v n links) (agreeing w v accepted accepted') s .held,
           );
         }
 

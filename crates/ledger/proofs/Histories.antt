@@ -57,18 +57,18 @@ at-every P one l (e ∷ es) h = (one (books l) (e .call) (e .reply) (h .0), at-e
 
 -- ---- quotes struck
 -- two well-formed areas with the same circuits
-pub record Twins (w v : List ℕ) : Type 0 where
+pub record Agreeing (w v : List ℕ) : Type 0 where
   pub first : WellFormed w
   pub second : WellFormed v
   pub agrees : Agrees (station w) (station v)
 
-module _ (w v : List ℕ) (t : Twins w v) (c d : Lending) (same : measured c ≡ measured d) where
+module _ (w v : List ℕ) (t : Agreeing w v) (c d : Lending) (same : measured c ≡ measured d) where
   alike : replyTo w c ≡ replyTo v d
   alike = replies-alike w v (t .first) (t .second) (t .agrees) c d same
 
   -- a call that remains leaves them so
-  twins-next : Twins (areaAfter w c) (areaAfter v d)
-  twins-next =
+  agreeing-next : Agreeing (areaAfter w c) (areaAfter v d)
+  agreeing-next =
       record {
         first = keeps w (t .first) c;
         second = keeps v (t .second) d;
@@ -77,14 +77,14 @@ module _ (w v : List ℕ) (t : Twins w v) (c d : Lending) (same : measured c ≡
             (agrees-sym (rw (same, alike) (moves v (t .second) d)));
       }
 
-pub struck-answers : (w v : List ℕ) → Twins w v → {cs ds : List Lending} (s : Struck cs ds) → answers v ds ≡ remaining s (answers w cs)
+pub struck-answers : (w v : List ℕ) → Agreeing w v → {cs ds : List Lending} (s : Struck cs ds) → answers v ds ≡ remaining s (answers w cs)
 struck-answers w v t end = refl
 struck-answers w v t (strike s) = struck-answers w v t s
 struck-answers w v t (keep {c = c} {d = d} same s) =
     ap₂ _∷_ (given-alike (buffer d) (buffer c) (sym (alike w v t c d same)))
-    (struck-answers (areaAfter w c) (areaAfter v d) (twins-next w v t c d same) s)
+    (struck-answers (areaAfter w c) (areaAfter v d) (agreeing-next w v t c d same) s)
 
-pub struck-ends : (w v : List ℕ) → Twins w v → {cs ds : List Lending} (s : Struck cs ds) → Agrees (station (areaAtEnd v ds)) (station (areaAtEnd w cs))
+pub struck-ends : (w v : List ℕ) → Agreeing w v → {cs ds : List Lending} (s : Struck cs ds) → Agrees (station (areaAtEnd v ds)) (station (areaAtEnd w cs))
 struck-ends w v t end = agrees-sym (t .agrees)
 struck-ends w v t (strike s) = struck-ends w v t s
-struck-ends w v t (keep {c = c} {d = d} same s) = struck-ends (areaAfter w c) (areaAfter v d) (twins-next w v t c d same) s
+struck-ends w v t (keep {c = c} {d = d} same s) = struck-ends (areaAfter w c) (areaAfter v d) (agreeing-next w v t c d same) s

@@ -15,7 +15,7 @@ use Rattle.rules.specs.Requests.{RequestFits}
 use Rattle.rules.specs.Replies.{Reply, refuses, grants}
 use Rattle.rules.specs.Rules.{Rule, Answered, Grant, requestRules, numberRules, searchRules}
 use Rattle.rules.specs.Meaning.{quoteRules, netFor}
-use Rattle.rules.proofs.Passed.{granted-not-refused, released-not-refused}
+use Rattle.rules.proofs.Facts.{granted-not-refused, released-not-refused}
 use Rattle.ledger.specs.Ledger.{Call, quoting, admitting, releasing, told, Ledger, seen, checks, rules, Refuses, Grants, moved}
 use Rattle.ledger.specs.Sentences.{IsRefused, IsGranted, Passes, Solvable, Overqualifies, OfRequest}
 use Rattle.ledger.specs.Demand.{PathsGranted}

@@ -16,7 +16,7 @@ use Rattle.route.specs.Result.{Unsolved}
 use Rattle.rules.specs.Requests.{RequestFits, requestFits}
 use Rattle.rules.specs.Replies.{Reply, grants}
 use Rattle.rules.specs.Rules.{Answered, Grant, by-one, by-two, searchRules}
-use Rattle.rules.proofs.Passed.{granted-not-refused}
+use Rattle.rules.proofs.Facts.{granted-not-refused}
 use Rattle.rules.proofs.Meaning.{request-says, request-test}
 use Rattle.ledger.specs.Sentences.{IsRefused, IsGranted, Solvable, Overqualifies}
 use Rattle.ledger.specs.Demand.{GrantedPath}

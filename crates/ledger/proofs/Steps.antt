@@ -5,11 +5,11 @@ use Prim.Native.Nat.{ℕ}
 use mathlib.Core.Path.{_≡_, refl, sym, ap, _∙_}
 use mathlib.Core.List.{List, _∷_}
 use mathlib.Core.Logic.{inl, inr}
-use native.Mathlib.Omega.{arith}
 use lib.ListN.{length}
+use Rattle.network.proofs.Tests.{zero-one}
 use Rattle.network.specs.declared.Request.{Request}
 use Rattle.area.specs.Station.{station}
-use Rattle.area.specs.Books.{books, Books, books}
+use Rattle.area.specs.Books.{Books, books}
 use Rattle.area.specs.Formed.{WellFormed, wellFormed}
 use Rattle.area.specs.Moves.{withoutNumber}
 use Rattle.area.specs.Order.{Agrees}
@@ -19,7 +19,7 @@ use Rattle.area.proofs.Order.{agrees-refl, agrees-eq, books-agree}
 use Rattle.rules.specs.Replies.{Reply, refuses, grants, releases}
 use Rattle.rules.specs.Calls.{quote, admission, booked, release, cleared, booksIn}
 use Rattle.rules.specs.Rules.{Rule, _when_, Answered}
-use Rattle.rules.proofs.Passed.{granted-not-refused, released-not-refused}
+use Rattle.rules.proofs.Facts.{granted-not-refused, released-not-refused}
 use Rattle.rules.proofs.Meaning.{quote-means, admission-means, release-means}
 use Rattle.rules.proofs.Bookings.{admitted-station, admitted-formed, released-station, released-formed}
 use Rattle.rules.proofs.Depends.{quote-depends, admission-depends, release-depends}
@@ -56,7 +56,7 @@ module _ (w : List ℕ) (formed : WellFormed w) where
   frees c (refuses k) e (inl (lacks, _)) = agrees-eq (sym (unheld-stays (station w) c lacks))
   frees c (refuses k) e (inr (_, f)) = absurd (released-not-refused k f)
   frees c (grants k d x p) e (inl (_, f)) = absurd (granted-not-refused k d x p 13 (sym f))
-  frees c (grants k d x p) e (inr (_, f)) = absurd (let z : _≡_ {A = ℕ} 0 1 = cc in omega arith)
+  frees c (grants k d x p) e (inr (_, f)) = absurd (zero-one cc)
   frees c releases e h = agrees-eq (released-station w c e)
 
   pub moves : (c : Lending) → Agrees (station (areaAfter w c)) (moved (station w) (measured c) (told (measured c) (replyTo w c)))

@@ -1,4 +1,5 @@
--- Any quotes of a list may be struck: whichever are chosen, the rest is the list with quotes struck.
+-- Any quotes of a list may be struck: whichever are chosen, the rest is the list with quotes struck; and where none is
+-- struck, every call and its answer remain.
 -- Assumes nothing.
 use Prim.Native.Nat.{ℕ}
 use mathlib.Core.Path.{_≡_, refl, ap}
@@ -24,7 +25,7 @@ any-quotes (false ∷ choices) (quoting work room r ∷ cs) = keep refl (any-quo
 any-quotes (b ∷ choices) (admitting work room c r ∷ cs) = keep refl (any-quotes choices cs)
 any-quotes (b ∷ choices) (releasing c ∷ cs) = keep refl (any-quotes choices cs)
 
--- where none is struck, all remain
+-- no quote struck
 pub none-struck : (cs : List Lending) → Struck cs cs
 none-struck [] = end
 none-struck (c ∷ cs) = keep refl (none-struck cs)

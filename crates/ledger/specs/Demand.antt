@@ -3,7 +3,7 @@
 -- Assumes nothing.
 use Prim.Native.Nat.{ℕ}
 use mathlib.Core.Path.{_≡_}
-use mathlib.Core.List.{List}
+use mathlib.Core.List.{List, map}
 use mathlib.Core.Logic.{_⊎_, _↔_}
 use Rattle.network.specs.Lists.{Distinct}
 use Rattle.network.specs.Net.{Net, Walk, nodesOf, sum}
@@ -16,7 +16,7 @@ use Rattle.loading.specs.declared.Loading.the-variants.{Loaded}
 use Rattle.loading.specs.Load.{loadAnswer, areaLoaded}
 use Rattle.rules.specs.Replies.{Reply, refuses, grants}
 use Rattle.ledger.specs.Ledger.{Call, opened, checks, Refuses, Grants}
-use Rattle.ledger.specs.History.{Lending, history, answers, areaAtEnd, bookings, atEnd, Struck, remaining}
+use Rattle.ledger.specs.History.{Lending, givenBy, Event, history, answers, areaAtEnd, bookings, atEnd, Struck, remaining}
 use Rattle.ledger.specs.Sentences.{IsRefused, IsGranted, Passes, Solvable, Overqualifies, AtEvery, OfRequest}
 
 -- ---- the third demand
@@ -38,6 +38,8 @@ module _ (w : List ℕ) (n : ℕ) (links : List ℕ) (cs : List Lending) where
     pub exactly : Throughout (λ o q a. Passes (checks o q) → OfRequest (λ g r b. IsRefused b ↔ (Solvable g r → ⊥)) o q a)
     -- "grants answer as the ledger says": a best path of its problem, with its own sums
     pub granted : Throughout (λ o q a. (IsRefused a → ⊥) → Grants o q a)
+    -- what each call answers is what its reply says: the numbers, with the path's delay, cost and l, and the path's words
+    pub answered : answers start cs ≡ map (λ (e : Event). givenBy (e .reply)) (history start cs)
     -- "and book as the ledger says": after the list, and so after every call, the bookings are exactly the entries
     pub books : Same (bookings (areaAtEnd start cs)) (atEnd (opened n links) (history start cs) .held)
     -- "overqualified paths are always enough"

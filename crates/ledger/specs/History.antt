@@ -9,7 +9,7 @@ use Rattle.network.specs.declared.Request.{Request}
 use Rattle.area.specs.Station.{Circuit, station}
 use Rattle.rules.specs.declared.Answer.{Answer}
 use Rattle.rules.specs.declared.Answer.the-variants.{Refused, Granted, Released}
-use Rattle.rules.specs.Replies.{Reply, answerOf, pathAfter}
+use Rattle.rules.specs.Replies.{Reply, refuses, grants, releases, answerOf, pathAfter}
 use Rattle.rules.specs.Calls.{quote, admission, booked, release, cleared}
 use Rattle.ledger.specs.Ledger.{Call, quoting, admitting, releasing, told, Ledger, moved}
 
@@ -59,6 +59,15 @@ pub record Given : Type 0 where
 unfoldable pub given : List ℕ → Reply → Given
 unfolding answerOf pathAfter
 given room a = record { numbers = answerOf a; words = take (linksOf (answerOf a)) (pathAfter a room) }
+
+-- what the reply alone says: its numbers, and the words of the path that it grants
+abbrev pub pathOf : Reply → List ℕ
+pathOf (refuses k) = []
+pathOf (grants k d x p) = p
+pathOf releases = []
+
+abbrev pub givenBy : Reply → Given
+givenBy a = record { numbers = answerOf a; words = pathOf a }
 
 -- ---- a list of calls
 pub record Event : Type 0 where

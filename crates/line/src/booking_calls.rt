@@ -11,7 +11,8 @@ use line_codes::replies::tell;
 use quotes::quote::quote;
 use rules::Answer;
 
-// 5, 6, 7, 8, 9 and 10; else 0, problem, delay, cost and links in `answer` and the path's links in `path`.
+// 5, 6, 7, 8, 9 and 10; else 0, problem, delay, cost and links in `answer` and the path's links in `path`. Work memory is
+// open after.
 #[no_mangle]
 pub extern "C" fn line_quote(
     area: &[u32],
@@ -35,7 +36,7 @@ pub extern "C" fn line_quote(
     tell(quoted, answer)
 }
 
-// 5, 6, 7, 8, 11, 12, 9 and 10; else as a quote, and the circuit is added to the area.
+// 5, 6, 7, 8, 11, 12, 9 and 10; else as a quote, and the circuit is added to the area. Work memory is open after.
 #[no_mangle]
 pub extern "C" fn line_admit(
     area: &mut [u32],

@@ -86,7 +86,7 @@ class-granted k =
     (λ _ e. absurd (omega arith))
 
 -- ---- quote, admission and release
--- the replies that grant a path, and the one that releases
+-- the replies that grant a path
 abbrev pub Grants : Reply → Type 0
 Grants (refuses k) = ⊥
 Grants (grants problem delay cost path) = Unit {0}

@@ -4,12 +4,11 @@ use mathlib.Core.Path.{_≡_, sym, ap}
 use mathlib.Core.Bool.{true}
 use mathlib.Core.List.{List, [], _++_}
 use Prim.Native.Nat.{ℕ, _+_, _*_, _≤_}
-use native.Mathlib.Omega.{arith}
 use borrow.Author.Tests.{le-leb, leb-true, eqb-true}
 use lib.Dec.{leb}
 use lib.ListN.{length, drop}
 use Rattle.network.proofs.Stored.{from-length}
-use Rattle.network.proofs.Tests.{fst-of, snd-of}
+use Rattle.network.proofs.Tests.{fst-of, snd-of, zero-one}
 use Rattle.area.specs.Checks.{pass}
 use Rattle.area.proofs.Checks.{all-pass}
 use Rattle.link_format.specs.declared.Size.{Size}
@@ -52,7 +51,7 @@ module _ (f : List ℕ) (room : ℕ) where
   module _ (s : Size) (e : readAnswer f room ≡ Table s) where
     passed : (pass (readChecks f room) ≡ true) × (Table (record { nodes = nodesIn f; links = linksIn f }) ≡ Table s)
     unfolding readAnswer
-    passed = all-pass Refused (readChecks f room) _ (Table s) (λ k clash. let z : _≡_ {A = ℕ} 0 1 = cc in omega arith) e
+    passed = all-pass Refused (readChecks f room) _ (Table s) (λ k clash. zero-one cc) e
 
     pub read-accepted : Accepted f room
     read-accepted = checks-said (passed .0)

@@ -4,6 +4,7 @@ ghost use Prim.Native.Nat.{_+_, _*_, _<_, _≤_};
 ghost use lib.ListN.{length};
 ghost use Rattle.link_format.specs.Reading.{wordAt, signed};
 
+// A byte as a word, with its range, by which the sums below do not overflow.
 fn wide(byte: u8) -> u32
     ensures { λ r. ⌜ (r ≡ byte) × (r < 256) ⌝ }
 {

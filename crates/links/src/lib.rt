@@ -1,5 +1,5 @@
-// The small functions that the search and the checks of an area share: the words of a link table, the set of nodes on a
-// path, and the scaled weight of a link.
+// Small functions that many crates share: the words of a link table and the set of nodes on a path; beside them the scaled
+// weight of one link, which `scaled_weights` alone calls.
 pub mod link;
 pub mod node_set;
 pub mod scale;

@@ -1,5 +1,5 @@
-// The nodes already on a path: one u32 with a bit per node, tested and set by shift. Callers hand in nodes of a
-// checked table, and a table has at most 32.
+// A set of nodes, as those already on a path: one u32 with a bit per node, tested and set by shift. Callers hand in
+// nodes of a checked table, and a table has at most 32.
 ghost use mathlib.Core.Path.{_≡_};
 ghost use Prim.Native.Nat.{_<_};
 ghost use Rattle.network.specs.NodeSet.{member, inserted};

@@ -3,7 +3,7 @@ ghost use mathlib.Core.Path.{_≡_};
 ghost use Prim.Native.Nat.{_<_, _≤_};
 ghost use Rattle.network.specs.Scale.{scaled};
 
-// ⌈weight × x / bound⌉. The ranges are document 01's, which the station's checks establish.
+// ⌈weight × x / bound⌉. The ranges are document 01's: the calls have checked weight and bound, and x is at most 8 × 31.
 pub fn scale(weight: u32, x: u32, bound: u32) -> u32
     requires { ⌜ weight ≤ 1000000 ⌝ }
     requires { ⌜ x ≤ 248 ⌝ }

@@ -10,7 +10,7 @@ use lib.Dec.{leb, eqb}
 use lib.ListN.{length, getD, drop, length-append, length-drop, List·getD-append}
 use lib.Seq.{getD-append-add, getD-drop}
 use borrow.Author.Tests.{leb-true, eqb-true}
-use Rattle.network.proofs.Tests.{fst-of, snd-of}
+use Rattle.network.proofs.Tests.{fst-of, snd-of, zero-one}
 use Rattle.area.specs.Station.{wordsAt, station, tableIn}
 use Rattle.area.specs.Formed.{Sound, WellFormed, inRange, linksFit}
 use Rattle.area.specs.Checks.{pass}
@@ -103,10 +103,10 @@ module _ (w : List ℕ) (n : ℕ) (links : List ℕ) where
   -- ---- by Load's answer, and the area that it leaves
   accepted-passes : loadAnswer w n links ≡ Loaded → pass (loadChecks w n links) ≡ true
   unfolding loadAnswer
-  accepted-passes e = all-pass Refused (loadChecks w n links) Loaded Loaded (λ k f. refusal k f) e .0
+  accepted-passes e = all-pass Refused (loadChecks w n links) Loaded Loaded refusal e .0
     where
       refusal : (k : ℕ) → Refused k ≡ Loaded → ⊥
-      refusal k f = let z : _≡_ {A = ℕ} 0 1 = cc in omega arith
+      refusal k f = zero-one cc
 
   accepted-loaded : loadAnswer w n links ≡ Loaded → areaLoaded w n links ≡ loaded w n links
   unfolding areaLoaded

@@ -24,6 +24,7 @@ x-positive g s t k c differ pos far = go (far .reached .0) (far .reached .1) (fa
     go [] h e = absurd (differ (h .walk))
     go (i ∷ p) h e = mul-le-mul {n₁ = 1} {m₁ = 1} pos (omega arith)
 
+-- two nodes have one distance
 pub one-distance : (g : Net) (s t k k' : ℕ) → Distance g s t k → Distance g s t k' → k ≡ k'
 one-distance g s t k k' far far' =
     omega (arith, far .fewest _ (far' .reached .1), far' .fewest _ (far .reached .1), far .reached .2, far' .reached .2)
@@ -92,7 +93,7 @@ module _ (g : Net) (r : Request) (positive : 0 < r .coefficient) (D : 0 < delayB
   pub found-within : (o : Outcome) → Found g r o → (k : ℕ) (p : List ℕ) → o ≡ granted k p → WithinBounds g r p
   found-within o found k p e = subst (Bounded g r) e (bounded o found)
 
-  -- such a path is enough for a grant
+  -- a path that meets one of the paper's two conditions is enough for a grant
   pub found-enough : (o : Outcome) → Found g r o → (k : ℕ) → Distance g (r .source) (r .target) k
       → (p : List ℕ) → IsPath g (r .source) (r .target) p → Enough g r k p
       → (w : ℕ) × (path : List ℕ) × (o ≡ granted w path)

@@ -14,7 +14,7 @@ use Rattle.network.specs.Net.{Net, Ends, Walk, IsPath, Some, nodesOf, su
 use Rattle.network.specs.NodeSet.{member}
 use Rattle.network.specs.Cut.{Notes, leftAlready, noted, noteLink, notes, follow, cut}
 use Rattle.network.proofs.Tests.{by-eq, by-bool, by-test}
-use Rattle.network.proofs.NodeSet.{member-empty, member-inserted, member-others}
+use Rattle.network.proofs.NodeSet.{member-empty, member-inserted, member-others, inserted-keeps}
 use Rattle.network.proofs.Short.{walk-short}
 
 -- r is a walk as good as p and passes no node twice
@@ -42,9 +42,6 @@ module _ (g : Net) (i : ℕ) (n : Notes) where
 
   note-length : length (noteLink g i n .next) ≡ length (n .next)
   note-length = note-cases (λ l. length l ≡ length (n .next)) (λ e. refl) (λ e. length-set (n .next) (g .tail i) i)
-
-  left-still : (v : ℕ) → member (n .left) v ≡ true → member (noteLink g i n .left) v ≡ true
-  left-still v m = by-eq (g .tail i) v (λ q. rw q (member-inserted (n .left) v)) (λ q. member-others (n .left) (g .tail i) v q ∙ m)
 
 -- a note for each of 32 nodes
 notes-length : (g : Net) (p : List ℕ) → length (notes g p .next) ≡ 32
@@ -89,7 +86,7 @@ module _ (g : Net) (t : ℕ) where
   led-still i n v (j ∷ r) h = (
     record {
       away = h .0 .away;
-      left = left-still g i n v (h .0 .left);
+      left = inserted-keeps (n .left) (g .tail i) v (h .0 .left);
       note = note-same g i n v (h .0 .left) ∙ h .0 .note;
       listed = h .0 .listed;
       usable = h .0 .usable;

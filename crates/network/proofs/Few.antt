@@ -1,4 +1,5 @@
--- Numbers below n, none twice, are at most n.
+-- A list of numbers below n, none of them twice, has at most n of them: with n − 1 taken out it is shorter by one at
+-- most, and the rest are below n − 1.
 -- Assumes nothing.
 use mathlib.Core.Path.{_≡_, refl, sym, subst}
 use mathlib.Core.Bool.{Bool, true, false, cond}

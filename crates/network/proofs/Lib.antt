@@ -1,6 +1,8 @@
 pub mod Tests
 pub mod Loops
 pub mod Columns
+pub mod Words
+pub mod Least
 pub mod NodeSet
 pub mod Scaling
 pub mod Paths

@@ -1,10 +1,9 @@
 -- Laws of counted loops: a loop's three needs, what it keeps, when two loops agree, and when a loop may stop early.
 -- Assumes nothing.
 use mathlib.Core.Path.{_≡_, refl, sym, _∙_, ap, subst}
-use mathlib.Core.Bool.{Bool, true, false, cond, _&&_, false≢true}
-use mathlib.Core.Logic.{⊎-elim}
+use mathlib.Core.Bool.{Bool, true, false, cond, and-false, false≢true}
 use Prim.Native.Nat.{ℕ, zero, suc, _+_, _-_, _<_, _≤_}
-use native.Mathlib.Nat.{zero-add, suc-add, eq-or-lt-of-le, le-refl}
+use native.Mathlib.Nat.{zero-add, suc-add, le-refl}
 use native.Mathlib.Numerals.{add-one}
 use native.Mathlib.Omega.{arith}
 use lib.Dec.{ltb}
@@ -39,13 +38,18 @@ module _ {A : Type 0} (f : ℕ → A → A) where
   iter-keeps P zero a step h = h
   iter-keeps P (suc n) a step h = step n _ (omega arith) (iter-keeps P n a (λ i b l. step i b (omega arith)) h)
 
-  -- a turn that brings a fact about, and turns that keep it
-  pub iter-brings : (P : A → Type 0) (j : ℕ) → ((a : A) → P (f j a)) → ((i : ℕ) (a : A) → P a → P (f i a)) → (n : ℕ) → j < n → (a : A) → P (iter f n a)
+  -- turn j brings P about where Q holds, each turn keeps Q, and each keeps P
+  pub iter-brings : (Q P : A → Type 0) (j n : ℕ) → j < n
+      → ((i : ℕ) (a : A) → i < n → Q a → Q (f i a))
+      → ((a : A) → Q a → P (f j a))
+      → ((i : ℕ) (a : A) → P a → P (f i a))
+      → (a : A) → Q a → P (iter f n a)
   unfolding iter
-  iter-brings P j brings keeps zero low a = absurd (omega arith)
-  iter-brings P j brings keeps (suc n) low a =
-      ⊎-elim (λ e. subst (λ (m : ℕ). P (f m (iter f n a))) e (brings (iter f n a))) (λ l. keeps n (iter f n a) (iter-brings P j brings keeps n l a))
-      (eq-or-lt-of-le (omega arith))
+  iter-brings Q P j zero low before brings keeps a h = absurd (omega arith)
+  iter-brings Q P j (suc n) low before brings keeps a h =
+      by-eq j n
+      (λ e. subst (λ (m : ℕ). P (f m (iter f n a))) e (brings (iter f n a) (iter-keeps Q n a (λ i b l. before i b (omega arith)) h)))
+      (λ ne. keeps n (iter f n a) (iter-brings Q P j n (omega arith) (λ i b l. before i b (omega arith)) brings keeps a h))
 
   -- two runs that each turn keeps related
   pub iter-both : (R : A → A → Type 0) (n : ℕ) → ((i : ℕ) (a b : A) → i < n → R a b → R (f i a) (f i b)) → (a b : A) → R a b → R (iter f n a) (iter f n b)
@@ -118,10 +122,6 @@ first-same f h zero same = refl
 first-same f h (suc n) same = rw (first-same f h n (λ i low. same i (omega arith)), same n (omega arith))
 
 -- ---- a test at every number below n
-and-false : (b : Bool) → (b && false) ≡ false
-and-false true = refl
-and-false false = refl
-
 module _ (f : ℕ → Bool) where
   -- before the first turn
   pub every-none : every f 0 ≡ true

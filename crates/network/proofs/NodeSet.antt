@@ -9,6 +9,7 @@ use native.Mathlib.Decide.{decLt}
 use lib.Bits.{bitOr, or-shr, or-mod, or-zero-r}
 use lib.Pow.{pow-lt, pow-pos, pow-add, shl-shr}
 use Rattle.network.specs.NodeSet.{member, inserted}
+use Rattle.network.proofs.Tests.{by-eq}
 
 -- a bit of a union
 or-bit : (a b w : ℕ) → bitOr a b / 2 ^ w % 2 ≡ bitOr (a / 2 ^ w % 2) (b / 2 ^ w % 2)
@@ -41,3 +42,7 @@ member-inserted s v = simp (or-bit, div-self (pow-pos v), or-one (s / 2 ^ v % 2)
 pub member-others : (s v w : ℕ) → (v ≡ w → ⊥) → member (inserted s v) w ≡ member s w
 unfolding member inserted
 member-others s v w ne = simp (or-bit, power-other v w ne, or-zero-r)
+
+-- so what is in the set stays in it
+pub inserted-keeps : (s v w : ℕ) → member s w ≡ true → member (inserted s v) w ≡ true
+inserted-keeps s v w h = by-eq v w (λ e. rw e (member-inserted s w)) (λ e. member-others s v w e ∙ h)

@@ -1,7 +1,9 @@
--- A test's two cases, with what each says. Assumes nothing.
+-- A test's two cases, with what each says, and the two halves of a test that passed.
+-- Assumes nothing.
 use mathlib.Core.Path.{_≡_, refl}
 use mathlib.Core.Bool.{Bool, true, false, cond, _&&_, and-eq-true-iff}
 use Prim.Native.Nat.{ℕ, _≤_, _<_}
+use native.Mathlib.Omega.{arith}
 use lib.Dec.{ltb, eqb}
 use borrow.Author.Tests.{ltb-true, ltb-false, eqb-true, eqb-false}
 
@@ -24,3 +26,7 @@ fst-of a b e = and-eq-true-iff a b .0 e .0
 
 pub snd-of : (a b : Bool) → (a && b) ≡ true → b ≡ true
 snd-of a b e = and-eq-true-iff a b .0 e .1
+
+-- what `cc` shows of two values that are built in different ways is absurd
+pub zero-one : _≡_ {A = ℕ} 0 1 → ⊥
+zero-one e = omega (arith, e)

@@ -1,4 +1,4 @@
--- Small functions on tests and lists that the other files share.
+-- Small functions on lists that the other files and crates share.
 -- Assumes nothing.
 use Prim.Native.Nat.{ℕ, zero, suc}
 use mathlib.Core.Path.{_≡_}

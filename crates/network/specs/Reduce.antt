@@ -31,7 +31,8 @@ pub record WithinBounds (g : Net) (r : Request) (p : List ℕ) : Type 0 where
   pub delay : sum (g .delay) p ≤ delayBound r
   pub cost : sum (g .cost) p ≤ costBound r
 
--- the paper's heuristic conditions one and two at distance k: one weight within its bound, the other overqualified
+-- the paper's heuristic conditions one and two at distance k: one weight within its bound, the other overqualified. They
+-- are printed with 1/x; document 01 holds Theorem 2's (l − 1)/x, as `Overqualified` has it
 abbrev pub Enough : Net → Request → ℕ → List ℕ → Type 0
 Enough g r k p =
     ((sum (g .delay) p ≤ delayBound r) × Overqualified (r .coefficient * k) (costBound r) (length p) (sum (g .cost) p))

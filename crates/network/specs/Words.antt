@@ -24,7 +24,8 @@ netOf n m words flags =
       cost = λ i. field words i 3;
     }
 
--- the words are those of m links between n nodes, each in its range
+-- the words are those of m links between n nodes, and what a search reads of them is in document 01's ranges; it reads no
+-- capacity, and equal ends do it no harm
 pub record LinkWords (n m : ℕ) (words : List ℕ) : Type 0 where
   pub whole : length words ≡ 5 * m
   pub from : (i : ℕ) → i < m → field words i 0 < n
@@ -32,7 +33,7 @@ pub record LinkWords (n m : ℕ) (words : List ℕ) : Type 0 where
   pub delay : (i : ℕ) → i < m → field words i 2 ≤ 1000000
   pub cost : (i : ℕ) → i < m → field words i 3 ≤ 1000000
 
--- a link table of n nodes and m links
+-- a link table of n nodes and m links, as a search relies on it
 pub record Links (n m : ℕ) (links : List ℕ) : Type 0 where
   pub nodes-some : 0 < n
   pub nodes-most : n ≤ 32

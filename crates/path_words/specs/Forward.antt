@@ -24,6 +24,7 @@ advanced g next t st =
     let on : Leg × List ℕ = (legOn g i (st .0), set (st .1) (st .0 .links) i) in
     cond (eqb (st .0 .node) t || leb (g .links) i) st on
 
+-- the whole pass: a path has at most nodes − 1 links
 unfoldable pub forwarded : Net → List ℕ → ℕ → ℕ → List ℕ → Leg × List ℕ
 forwarded g next s t path = iter (λ _. advanced g next t) (g .nodes - 1) (legStart s, path)
 

@@ -1,5 +1,5 @@
-// The noted links from s to t as words of the path buffer, with the path's own totals. Only `route` calls it, once for
-// each path that it grants.
+// The noted links from s to t as words of the path buffer, with the path's own totals. Only `attempt` calls it, once for
+// each path that is granted.
 pub mod path;
 
 // How far a path has come: the node, and the links, the delay and the cost so far.

@@ -1,4 +1,4 @@
-// Quote.
+// Quote: the checks in document 01's order, then the search.
 ghost use mathlib.Core.Path.{_≡_};
 ghost use lib.ListN.{length};
 ghost use Rattle.rules.specs.Replies.{answerOf, pathAfter};

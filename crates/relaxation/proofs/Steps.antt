@@ -124,6 +124,6 @@ settled-on p links usable kept scaled sound k i low l l' room turn own before =
     ))
     before
 
--- no change here: what was told before is told on
+-- nothing was changed: the relaxation gives on what it was told
 pub own-same : (again : Bool) (step : ℕ) (l : List ℕ) → again ≡ false → Own again step l l
 own-same again step l e = record { words = λ _. refl; told = e }

@@ -1,7 +1,7 @@
 // Lines 6 to 10: one link tried from its tail at one k.
 ghost use mathlib.Core.Path.{_≡_};
 ghost use mathlib.Core.Bool.{false};
-ghost use Prim.Native.Nat.{_+_, _*_, _≤_, _<_};
+ghost use Prim.Native.Nat.{_+_, _≤_, _<_};
 ghost use lib.ListN.{length, getD};
 ghost use Rattle.ebf.specs.Table.{number, improved, relaxed, offered};
 ghost use Rattle.table.specs.Solver.{Prepared, Sound, netIn, unflagged, problemOf, Bounded};
@@ -92,7 +92,8 @@ fn relax(
     due(stored, h.step, again)
 }
 
-// Line 24, for a usable link.
+// Line 24, for a usable link; any other is passed over. Gives false only where no other round is due for it, and none was
+// before.
 pub fn offer(
     work: &mut [u32],
     links: &[u32],

@@ -1,4 +1,4 @@
-// The ranges of a request and of a circuit number.
+// The ranges of a request, and which circuit numbers an admission takes.
 ghost use mathlib.Core.Path.{_≡_};
 ghost use mathlib.Core.Bool.{true};
 ghost use Rattle.area.specs.Formed.{wellFormed};

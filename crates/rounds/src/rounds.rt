@@ -1,4 +1,4 @@
-// Lines 20 to 24 in the paper's order: rounds, k rising, links in table order. The rounds end with one in which no link of
+// Lines 21 to 24 in the paper's order: rounds, k rising, links in table order. The rounds end with one in which no link of
 // scaled weight 0 changed a number: the rest of them would change nothing, since every link is then settled.
 ghost use mathlib.Core.Path.{_≡_};
 ghost use mathlib.Core.Bool.{false};

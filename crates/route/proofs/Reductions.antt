@@ -15,14 +15,14 @@ use Rattle.network.specs.Scale.{scaled}
 use Rattle.network.specs.Words.{field, netOf, LinkWords}
 use Rattle.network.specs.declared.Request.{Request}
 use Rattle.network.specs.Reduce.{problemOne, problemTwo, Outcome, no-path, no-solution, granted}
-use Rattle.network.proofs.Tests.{by-eq}
+use Rattle.network.proofs.Tests.{by-eq, zero-one}
 use Rattle.ebf.specs.Distance.{distance}
 use Rattle.ebf.specs.Solve.{solve}
 use Rattle.ebf.specs.Search.{outcomeOf, orElse, tried, search}
 use Rattle.table.specs.declared.Reduced.{Reduced}
 use Rattle.table.specs.Solver.{Sound, problemOf}
-use Rattle.attempt.specs.declared.Answer.{Answer}
-use Rattle.attempt.specs.declared.Answer.the-variants.{NoPath, NoSolution}
+use Rattle.network.specs.declared.Answer.{Answer}
+use Rattle.network.specs.declared.Answer.the-variants.{NoPath, NoSolution}
 use Rattle.route.specs.declared.Roles.{Roles}
 use Rattle.attempt.specs.Answers.{answerOf, pathAfter}
 use Rattle.route.specs.Ready.{Ready}
@@ -106,9 +106,9 @@ module _ (g : Net) where
 
   falls : (a : Outcome) → answerOf g a ≡ NoSolution → a ≡ no-solution
   unfolding answerOf
-  falls no-path h = absurd (let z : _≡_ {A = ℕ} 0 1 = cc in omega arith)
+  falls no-path h = absurd (zero-one cc)
   falls no-solution h = refl
-  falls (granted which p) h = absurd (let z : _≡_ {A = ℕ} 0 1 = cc in omega arith)
+  falls (granted which p) h = absurd (zero-one cc)
 
 module _ (n m : ℕ) (links usable : List ℕ) (r : Request) (x : ℕ) where
   abbrev g : Net

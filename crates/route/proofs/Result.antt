@@ -5,7 +5,7 @@ use Prim.Native.Nat.{ℕ}
 use mathlib.Core.Path.{_≡_, refl}
 use mathlib.Core.List.{List}
 use mathlib.Core.Logic.{_⊎_, inl, inr}
-use native.Mathlib.Omega.{arith}
+use Rattle.network.proofs.Tests.{zero-one}
 use Rattle.network.specs.Net.{Net}
 use Rattle.network.specs.Words.{netOf}
 use Rattle.network.specs.declared.Request.{Request}
@@ -23,29 +23,29 @@ use Rattle.attempt.proofs.Outcomes.{net-ends}
 module _ (g : Net) (r : Request) where
   -- one problem's number says which problem granted
   granted-one : (o : Outcome) → Found g r o → (p : List ℕ) → o ≡ granted 1 p → GrantedByOne g r p
-  granted-one o (Found.none h) p e = absurd (let z : _≡_ {A = ℕ} 0 1 = cc in omega arith)
-  granted-one o (Found.unsolved k far h h') p e = absurd (let z : _≡_ {A = ℕ} 0 1 = cc in omega arith)
+  granted-one o (Found.none h) p e = absurd (zero-one cc)
+  granted-one o (Found.unsolved k far h h') p e = absurd (zero-one cc)
   granted-one o (Found.by-one k p' far best) p e = let same : p' ≡ p = cc in rw (← same) (k, far, best)
-  granted-one o (Found.by-two k p' far h best) p e = absurd (let z : _≡_ {A = ℕ} 2 1 = cc in omega arith)
+  granted-one o (Found.by-two k p' far h best) p e = absurd (zero-one cc)
 
   granted-two : (o : Outcome) → Found g r o → (p : List ℕ) → o ≡ granted 2 p → GrantedByTwo g r p
-  granted-two o (Found.none h) p e = absurd (let z : _≡_ {A = ℕ} 0 1 = cc in omega arith)
-  granted-two o (Found.unsolved k far h h') p e = absurd (let z : _≡_ {A = ℕ} 0 1 = cc in omega arith)
-  granted-two o (Found.by-one k p' far best) p e = absurd (let z : _≡_ {A = ℕ} 1 2 = cc in omega arith)
+  granted-two o (Found.none h) p e = absurd (zero-one cc)
+  granted-two o (Found.unsolved k far h h') p e = absurd (zero-one cc)
+  granted-two o (Found.by-one k p' far best) p e = absurd (zero-one cc)
   granted-two o (Found.by-two k p' far h best) p e = let same : p' ≡ p = cc in rw (← same) (k, far, h, best)
 
   granted-either : (o : Outcome) → Found g r o → (which : ℕ) (p : List ℕ) → o ≡ granted which p → (which ≡ 1) ⊎ (which ≡ 2)
-  granted-either o (Found.none h) which p e = absurd (let z : _≡_ {A = ℕ} 0 1 = cc in omega arith)
-  granted-either o (Found.unsolved k far h h') which p e = absurd (let z : _≡_ {A = ℕ} 0 1 = cc in omega arith)
+  granted-either o (Found.none h) which p e = absurd (zero-one cc)
+  granted-either o (Found.unsolved k far h h') which p e = absurd (zero-one cc)
   granted-either o (Found.by-one k p' far best) which p e = inl (cc)
   granted-either o (Found.by-two k p' far h best) which p e = inr (cc)
 
   -- a path, or a solution, excludes the refusals
   says-nowhere : (o : Outcome) → Found g r o → o ≡ no-path → NoPath g (r .source) (r .target)
   says-nowhere o (Found.none h) e = h
-  says-nowhere o (Found.unsolved k far h h') e = absurd (let z : _≡_ {A = ℕ} 0 1 = cc in omega arith)
-  says-nowhere o (Found.by-one k p far best) e = absurd (let z : _≡_ {A = ℕ} 0 1 = cc in omega arith)
-  says-nowhere o (Found.by-two k p far h best) e = absurd (let z : _≡_ {A = ℕ} 0 1 = cc in omega arith)
+  says-nowhere o (Found.unsolved k far h h') e = absurd (zero-one cc)
+  says-nowhere o (Found.by-one k p far best) e = absurd (zero-one cc)
+  says-nowhere o (Found.by-two k p far h best) e = absurd (zero-one cc)
 
   nowhere-says : NoPath g (r .source) (r .target) → (o : Outcome) → Found g r o → o ≡ no-path
   nowhere-says lacks o (Found.none h) = refl
@@ -54,10 +54,10 @@ module _ (g : Net) (r : Request) where
   nowhere-says lacks o (Found.by-two k p far h best) = absurd (lacks _ (far .reached .1))
 
   says-unsolved : (o : Outcome) → Found g r o → o ≡ no-solution → Unsolved g r
-  says-unsolved o (Found.none h) e = absurd (let z : _≡_ {A = ℕ} 0 1 = cc in omega arith)
+  says-unsolved o (Found.none h) e = absurd (zero-one cc)
   says-unsolved o (Found.unsolved k far h h') e = (k, far, h, h')
-  says-unsolved o (Found.by-one k p far best) e = absurd (let z : _≡_ {A = ℕ} 0 1 = cc in omega arith)
-  says-unsolved o (Found.by-two k p far h best) e = absurd (let z : _≡_ {A = ℕ} 0 1 = cc in omega arith)
+  says-unsolved o (Found.by-one k p far best) e = absurd (zero-one cc)
+  says-unsolved o (Found.by-two k p far h best) e = absurd (zero-one cc)
 
   unsolved-says : Unsolved g r → (o : Outcome) → Found g r o → o ≡ no-solution
   unsolved-says lacks o (Found.none h) = absurd (h _ (lacks .1 .reached .1))
@@ -81,7 +81,7 @@ module _ (g : Net) (r : Request) where
         enough = found-enough g r (ok .coefficient-some) (ok .delay-some) (ok .cost-some) (ok .apart) _ found;
       }
 
--- and what it finds, the path granted with it, depends on the network and the request alone, through nothing but
+-- and what it finds, the granted path included, depends on the network and the request alone, and of the network only on
 -- n, which links are usable, the links' ends, delays and costs
 pub result-depends : (g o : Net) → Alike g o → (r : Request) → search g r ≡ search o r
 result-depends = search-depends

@@ -1,5 +1,5 @@
--- The stated result of the route search: all that the upper crates may use of it. It speaks of the network, the
--- request and the outcome alone, and of no table.
+-- The stated result of the route search, on which the laws of the calls rest and on nothing else of it. It speaks of the
+-- network, the request and the outcome alone, and of no table.
 -- Assumes nothing.
 use Prim.Native.Nat.{ℕ, _≤_, _<_}
 use mathlib.Core.Path.{_≡_}

@@ -1,5 +1,5 @@
 // The route search of document 01, the lower crate: a path within a delay bound and a cost bound by the extended
-// Bellman-Ford search, problem one and else problem two. Line numbers are those of the paper.
+// Bellman-Ford search, problem one and else problem two, as in section 2.3 of the paper.
 //
 // Only `search` can be called from outside. What the functions below it require follows from what `search` requires,
 // and each caller shows it; what `search` requires, the upper crate's calls have checked before they search.
@@ -12,9 +12,9 @@ ghost use Rattle.route.specs.Ready.{Ready};
 mod problems;
 
 use crate::problems::both_problems;
-use attempt::Answer;
 use distance::distance::distance;
 use links::link;
+use network::Answer;
 use network::Request;
 
 // The roles of a link's two weights in problem `which`, 1 or 2: the weight in word `kept` of each link stays within its

@@ -33,7 +33,7 @@ use Rattle.rules.specs.Replies.{Reply, refuses, grants, releases}
 use Rattle.rules.specs.Calls.{booksIn, sought, numberFits, admitChecks, admission, booked, releaseChecks, release, cleared}
 use Rattle.rules.specs.Rules.{Answered, Grant, by-one, by-two, searchRules, NumberFits}
 use Rattle.rules.specs.Meaning.{netFor}
-use Rattle.rules.proofs.Passed.{granted-not-refused, released-not-refused, whole-path, some-link, count-is, held-number}
+use Rattle.rules.proofs.Facts.{granted-not-refused, released-not-refused, whole-path, some-link, count-is, held-number}
 use Rattle.rules.proofs.Meaning.{request-says, number-says, area-searchable, sought-means}
 
 -- a granted path is a usable path

@@ -6,7 +6,7 @@ use mathlib.Core.Path.{_≡_, refl, ap, _∙_}
 use mathlib.Core.Bool.{Bool, true, false, cond}
 use mathlib.Core.List.{List, [], _∷_, _++_}
 use native.Mathlib.Omega.{arith}
-use lib.Dec.{ltb, leb}
+use lib.Dec.{ltb, leb, eqb}
 use lib.ListN.{getD}
 use borrow.Author.Tests.{leb-true, le-leb, lt-leb, lt-ltb, le-ltb}
 use Rattle.network.specs.declared.Request.{Request}
@@ -15,8 +15,8 @@ use Rattle.area.specs.Books.{books}
 use Rattle.area.specs.Held.{foundAt}
 use Rattle.area.specs.Formed.{inRange, wellFormed}
 use Rattle.area.specs.Checks.{Check, checked, firstFailing}
-use Rattle.area.proofs.Found.{holds-found}
-use Rattle.rules.proofs.Passed.{count-is}
+use Rattle.area.proofs.Found.{holds-found, unheld-found}
+use Rattle.rules.proofs.Facts.{count-is}
 use Rattle.rules.specs.Requests.{requestFits}
 use Rattle.rules.specs.Replies.{Reply, refuses, releases}
 use Rattle.rules.specs.Calls.{booksIn, numberFits, numberChecks, quoteChecks, sought, quote, admission, release}
@@ -110,13 +110,10 @@ module _ (w : List ℕ) where
   unfolding numberFits
   number-out c e = rw e refl
 
-  pub number-held : (c : ℕ) → inRange 1 65535 c ≡ true → foundAt w (getD w 2 0) c < getD w 2 0 → false ≡ numberFits (booksIn w) c
-  unfolding numberFits
-  number-held c e low = rw (e, held-is c, lt-ltb (foundAt w (getD w 2 0) c) (getD w 2 0) low) refl
-
-  pub number-new : (c : ℕ) → inRange 1 65535 c ≡ true → getD w 2 0 ≤ foundAt w (getD w 2 0) c → true ≡ numberFits (booksIn w) c
-  unfolding numberFits
-  number-new c e high = rw (e, held-is c, le-ltb (foundAt w (getD w 2 0) c) (getD w 2 0) high) refl
+  -- in its range: it is up to whether the search for it comes to the end
+  pub number-left : (c : ℕ) → inRange 1 65535 c ≡ true → eqb (foundAt w (getD w 2 0) c) (getD w 2 0) ≡ numberFits (booksIn w) c
+  unfolding numberFits books station
+  number-left c e = unheld-found w (getD w 2 0) c ∙ rw e refl
 
   pub admission-refused : (work room c : ℕ) (r : Request) (k : ℕ) → k ≡ firstFailing (quoteChecks w work room r) → (k ≡ 0 → ⊥)
       → refuses k ≡ admission w work room c r

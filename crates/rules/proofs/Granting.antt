@@ -10,11 +10,12 @@ use native.Mathlib.Nat.{zero-add}
 use types.Run.{OneOf}
 use native.Mathlib.Omega.{arith}
 use lib.ListN.{length, drop, List·getD-append}
+use Rattle.network.proofs.Tests.{zero-one}
 use Rattle.network.specs.Net.{Net}
 use Rattle.network.specs.Reduce.{Outcome, no-path, no-solution, granted}
 use Rattle.network.specs.declared.Request.{Request}
-use Rattle.attempt.specs.declared.Grant.{Grant}
-use Rattle.attempt.specs.Answers as route
+use Rattle.network.specs.declared.Grant.{Grant}
+use Rattle.attempt.specs.Answers as attempt
 use Rattle.area.specs.Station.{nodesIn, tableIn, station, wordsAt}
 use Rattle.area.specs.Books.{books}
 use Rattle.area.specs.Formed.{WellFormed, wellFormed}
@@ -32,14 +33,14 @@ use Rattle.rules.proofs.Meaning.{request-says, sought-means, quote-mean
 use Rattle.rules.proofs.Bookings.{grant-path, searched, seen-short}
 
 -- the search's answer, numbered, is the reply's
-pub told-reply : (g : Net) (o : Outcome) → told (route.answerOf g o) ≡ answerOf (replyOf g o)
-unfolding told answerOf replyOf route.answerOf
+pub told-reply : (g : Net) (o : Outcome) → told (attempt.answerOf g o) ≡ answerOf (replyOf g o)
+unfolding told answerOf replyOf attempt.answerOf
 told-reply g no-path = refl
 told-reply g no-solution = refl
 told-reply g (granted k p) = refl
 
-pub path-reply : (g : Net) (o : Outcome) (l : List ℕ) → route.pathAfter o l ≡ pathAfter (replyOf g o) l
-unfolding pathAfter replyOf route.pathAfter
+pub path-reply : (g : Net) (o : Outcome) (l : List ℕ) → attempt.pathAfter o l ≡ pathAfter (replyOf g o) l
+unfolding pathAfter replyOf attempt.pathAfter
 path-reply g no-path l = refl
 path-reply g no-solution l = refl
 path-reply g (granted k p) l = refl
@@ -49,8 +50,8 @@ module _ (w : List ℕ) (c u : ℕ) (g : Grant) (l : List ℕ) where
   stored : (a : Reply) → answerOf a ≡ Granted g
       → added w (record { number = c; units = u; path = wordsAt (pathAfter a l) 0 (g .links) }) ≡ booked w c u a
   unfolding answerOf pathAfter booked
-  stored (refuses k) e = absurd (let z : _≡_ {A = ℕ} 0 1 = cc in omega arith)
-  stored releases e = absurd (let z : _≡_ {A = ℕ} 0 1 = cc in omega arith)
+  stored (refuses k) e = absurd (zero-one cc)
+  stored releases e = absurd (zero-one cc)
   stored (grants k d x p) e =
       let many : g .links ≡ length p = cc in
       let path : wordsAt (p ++ drop (length p) l) 0 (length p) ≡ p = words-list (p ++ drop (length p) l) 0 p (λ i low. rw zero-add (List·getD-append p (drop (length p) l) 0 i low)) in
@@ -91,8 +92,8 @@ granted-short w r formed request g = go (sought (booksIn w) r) (sought-means w r
     fits = request-says (nodesIn w) r request
 
     go : (a : Reply) → Answered (Means (netFor w r) r) (searchRules (netFor w r) r) a → answerOf a ≡ Granted g → g .links ≤ 31
-    go (refuses n) h e = absurd (let z : _≡_ {A = ℕ} 0 1 = cc in omega arith)
-    go releases h e = absurd (let z : _≡_ {A = ℕ} 0 1 = cc in omega arith)
+    go (refuses n) h e = absurd (zero-one cc)
+    go releases h e = absurd (zero-one cc)
     go (grants k d x p) h e =
         let many : g .links ≡ length p = cc in
         omega (arith, seen-short w r whole fits p (grant-path (searched (netFor w r) r k d x p h)))

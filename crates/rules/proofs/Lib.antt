@@ -1,4 +1,4 @@
-pub mod Passed
+pub mod Facts
 pub mod Meaning
 pub mod Bookings
 pub mod Depends

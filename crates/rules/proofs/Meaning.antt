@@ -12,7 +12,7 @@ use borrow.Author.Tests.{leb-true, leb-false, ltb-true, ltb-false, lt-ltb, eqb-f
 use Rattle.network.specs.Net.{Net}
 use Rattle.network.specs.Reduce.{delayBound, costBound, Outcome, no-path, no-solution, granted}
 use Rattle.network.specs.declared.Request.{Request}
-use Rattle.network.proofs.Tests.{fst-of, snd-of}
+use Rattle.network.proofs.Tests.{fst-of, snd-of, zero-one}
 use Rattle.ebf.specs.Search.{search}
 use Rattle.route.specs.Result.{Searchable, Result}
 use Rattle.route.proofs.Result.{search-result}
@@ -136,15 +136,15 @@ module _ (g : Net) (r : Request) where
   replied no-solution h = inr (λ lacks. never (h .nowhere .1 lacks), inl (h .unsolved .0 refl, refl))
     where
       never : no-solution ≡ no-path → ⊥
-      never e = let z : _≡_ {A = ℕ} 0 1 = cc in omega arith
+      never e = zero-one cc
   replied (granted k p) h =
       inr (λ lacks. nowhere (h .nowhere .1 lacks), inr (λ lacks. unsolved (h .unsolved .1 lacks), grant k p h (h .no-other k p refl)))
     where
       nowhere : granted k p ≡ no-path → ⊥
-      nowhere e = let z : _≡_ {A = ℕ} 0 1 = cc in omega arith
+      nowhere e = zero-one cc
 
       unsolved : granted k p ≡ no-solution → ⊥
-      unsolved e = let z : _≡_ {A = ℕ} 0 1 = cc in omega arith
+      unsolved e = zero-one cc
 
 -- past the checks: 9, 10 or a grant
 pub sought-means : (w : List ℕ) (r : Request) → WellFormed w → RequestFits (booksIn w .table .nodes) r

@@ -1,12 +1,12 @@
--- What the calls of this crate answer, and the enums that the code answers with.
+-- What quote, admission and release reply, what they leave in the path buffer, and the enums that the code answers with.
 -- Assumes nothing.
 use Prim.Native.Nat.{ℕ}
 use mathlib.Core.List.{List, _++_}
 use lib.ListN.{length, drop}
 use Rattle.network.specs.Net.{Net, sum}
 use Rattle.network.specs.Reduce.{Outcome, no-path, no-solution, granted}
-use Rattle.attempt.specs.declared.Answer.{Answer as Found}
-use Rattle.attempt.specs.declared.Answer.the-variants as found
+use Rattle.network.specs.declared.Answer.{Answer as Found}
+use Rattle.network.specs.declared.Answer.the-variants as found
 use Rattle.rules.specs.declared.Answer.{Answer}
 use Rattle.rules.specs.declared.Answer.the-variants.{Refused, Granted, Released}
 

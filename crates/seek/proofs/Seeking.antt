@@ -142,7 +142,7 @@ module _ (w units flags work path : List ℕ) (r : Request) (ok : Seekable w uni
   pub search-net : netOf n k links flags ≡ netFor w r
   search-net = rw (links-are, is-n, is-m) (seek-net w (ok .formed) (r .units) (asked .units-least) units flags (ok .units) whole flagged)
 
-  -- what the search then found is what the books are replied
+  -- the reply for what the search found is the one that the books give
   pub reply-is : replyOf (netOf n k links flags) (search (netOf n k links flags) r) ≡ sought (booksIn w) r
   unfolding sought
   reply-is = ap (λ (g : Net). replyOf g (search g r)) search-net

@@ -10,18 +10,18 @@ use rules::Answer;
 use station::usable::usable;
 
 // The search's answer with document 01's numbers.
-fn numbered(found: attempt::Answer) -> Answer
+fn numbered(found: network::Answer) -> Answer
     ensures { λ a. ⌜ a ≡ told found ⌝ }
 {
     match found {
-        attempt::Answer::NoPath => Answer::Refused(9),
-        attempt::Answer::NoSolution => Answer::Refused(10),
-        attempt::Answer::Granted(g) => Answer::Granted(g),
+        network::Answer::NoPath => Answer::Refused(9),
+        network::Answer::NoSolution => Answer::Refused(10),
+        network::Answer::Granted(g) => Answer::Granted(g),
     }
 }
 
 // Searches for a path for `r` on a well-formed area whose links have these free units. Both callers come here past
-// their checks, with the free units that the check of the area gave.
+// their checks, with the free units that the check of the area gave. Work memory is open after.
 pub fn seek(
     area: &[u32],
     free: &[u32; 256],

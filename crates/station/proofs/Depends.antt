@@ -9,40 +9,14 @@ use native.Mathlib.Omega.{arith}
 use lib.Dec.{ltb, leb}
 use lib.ListN.{length, getD}
 use Rattle.network.proofs.Tests.{by-eq}
-use Rattle.area.specs.Station.{Circuit, Station, circuits, station, tableIn}
+use Rattle.area.specs.Station.{Circuit, Station, circuits, heldIn, station, tableIn}
 use Rattle.area.specs.Books.{free}
 use Rattle.area.specs.Held.{numberAt, numbersFrom}
 use Rattle.area.specs.Formed.{sound, wellFormed}
 use Rattle.area.specs.Checks.{_unless_, checked}
 use Rattle.station.specs.declared.Reading.the-variants.{Refused, Value}
-use Rattle.station.specs.Reads.{listAnswer, freeAnswer}
+use Rattle.station.specs.Reads.{listAnswer, listed, freeAnswer}
 use Rattle.area.proofs.Found.{circuit-number, held-length}
-
-module _ (w w' : List ℕ) (long : leb 3459 (length w) ≡ leb 3459 (length w')) (same : station w ≡ station w') where
-  pub formed-depends : wellFormed w ≡ wellFormed w'
-  unfolding wellFormed
-  formed-depends = ap₂ _&&_ long (ap sound same)
-
-  -- how many are held, and how many links there are
-  pub held-depends : getD w 2 0 ≡ getD w' 2 0
-  unfolding station
-  held-depends =
-      sym (held-length w (getD w 2 0)) ∙ ap (λ (s : Station). length (s .held)) same ∙ held-length w' (getD w' 2 0)
-
-  pub links-depend : getD w 1 0 ≡ getD w' 1 0
-  unfolding station tableIn
-  links-depend = ap (λ (s : Station). s .table .links) same
-
-  pub list-depends : (room : ℕ) → listAnswer w room ≡ listAnswer w' room
-  unfolding listAnswer
-  list-depends room =
-      ap₂ (λ (formed : Bool) (h : ℕ). checked Refused ((5 unless formed) ∷ (14 unless leb h room) ∷ []) (Value h)) formed-depends held-depends
-
-  pub free-depends : (i : ℕ) → freeAnswer w i ≡ freeAnswer w' i
-  unfolding freeAnswer station tableIn
-  free-depends i =
-      ap₂ (λ (formed : Bool) (s : Station). checked Refused ((5 unless formed) ∷ (15 unless ltb i (s .table .links)) ∷ []) (Value (free s i)))
-      formed-depends same
 
 -- equal circuits have equal numbers at each place
 numbers-at : (w w' : List ℕ) (h : ℕ) → circuits w h ≡ circuits w' h → (j : ℕ) → j < h → numberAt w j ≡ numberAt w' j
@@ -56,6 +30,35 @@ numbers-from : (w w' : List ℕ) (j n : ℕ) → ((i : ℕ) → i < j + n → nu
 numbers-from w w' j zero each = refl
 numbers-from w w' j (suc n) each = ap₂ _∷_ (each j (omega arith)) (numbers-from w w' (suc j) n (λ i low. each i (omega arith)))
 
--- the numbers that a listing writes
-pub listed-depends : (w w' : List ℕ) (h : ℕ) → circuits w h ≡ circuits w' h → numbersFrom w 0 h ≡ numbersFrom w' 0 h
-listed-depends w w' h e = numbers-from w w' 0 h (λ i low. numbers-at w w' h e i (omega arith))
+numbers-depend : (w w' : List ℕ) (h h' : ℕ) → h ≡ h' → circuits w h ≡ circuits w' h' → numbersFrom w 0 h ≡ numbersFrom w' 0 h'
+numbers-depend w w' h h' e same =
+    let at-h : circuits w h ≡ circuits w' h = rw (← e) at same in
+    numbers-from w w' 0 h (λ i low. numbers-at w w' h at-h i (omega arith)) ∙ ap (numbersFrom w' 0) e
+
+module _ (w w' : List ℕ) (long : leb 3459 (length w) ≡ leb 3459 (length w')) (same : station w ≡ station w') where
+  pub formed-depends : wellFormed w ≡ wellFormed w'
+  unfolding wellFormed
+  formed-depends = ap₂ _&&_ long (ap sound same)
+
+  -- how many are held
+  pub held-depends : getD w 2 0 ≡ getD w' 2 0
+  unfolding station
+  held-depends =
+      sym (held-length w (getD w 2 0)) ∙ ap (λ (s : Station). length (s .held)) same ∙ held-length w' (getD w' 2 0)
+
+  pub list-depends : (room : ℕ) → listAnswer w room ≡ listAnswer w' room
+  unfolding listAnswer
+  list-depends room = rw (formed-depends, held-depends) refl
+
+  pub free-depends : (i : ℕ) → freeAnswer w i ≡ freeAnswer w' i
+  unfolding freeAnswer station tableIn
+  free-depends i =
+      ap₂ (λ (formed : Bool) (s : Station). checked Refused ((5 unless formed) ∷ (15 unless ltb i (s .table .links)) ∷ []) (Value (free s i)))
+      formed-depends same
+
+  -- the buffer after a listing
+  pub listed-depends : (l : List ℕ) → listed w l ≡ listed w' l
+  unfolding listed station
+  listed-depends l =
+      let numbers = numbers-depend w w' (heldIn w) (heldIn w') held-depends (ap (λ (s : Station). s .held) same) in
+      rw (formed-depends, ← numbers, held-depends) refl

@@ -20,7 +20,7 @@ netIn p links usable = netOf (p .nodes) (p .links) links usable
 
 -- The network without flags and the problem without kept weights, for the contracts of functions that take no flags
 -- and no kept weights: neither a relaxation nor the trace asks which links are usable, and the trace asks for no kept
--- weight. Any flags and any kept weights give the same (proofs/Unflagged.antt).
+-- weight. Any flags and any kept weights give the same: `relaxed-unflagged` in `relaxation`, `traced-unflagged` in `trace`.
 abbrev pub unflagged : Reduced → List ℕ → Net
 unflagged p links = netOf (p .nodes) (p .links) links []
 

@@ -1,9 +1,11 @@
 // The table d[v, k] in work memory: cell v * (x + 1) + k has its number at the word twice its place, and the link
 // by which v was reached at the next word.
+ghost use mathlib.Core.List.{[]};
 ghost use mathlib.Core.Path.{_≡_};
-ghost use Prim.Native.Nat.{_+_, _*_, _≤_, _<_};
+ghost use Prim.Native.Nat.{_+_, _≤_, _<_};
 ghost use lib.ListN.{length};
-ghost use Rattle.ebf.specs.Table.{cell, cells, filled};
+ghost use Rattle.ebf.specs.Table.{cell, cells, filled, initialised};
+ghost use Rattle.table.specs.Solver.{unflagged, scaledOnly};
 use crate::Reduced;
 
 // The cell of d[v, k].
@@ -29,7 +31,7 @@ pub fn cells(n: usize, x: usize) -> usize
 
 // The `n` cells from `a` on get the number `d`.
 fn fill(work: &mut [u32], a: usize, n: usize, d: u32)
-    requires { ⌜ (a + n ≤ 8000) × (16384 ≤ length (now work)) ⌝ }
+    requires { ⌜ (a + n ≤ 7968) × (16384 ≤ length (now work)) ⌝ }
     ensures { λ _. ⌜ now (work .exit) ≡ filled a n d (now (work .entry)) ⌝ }
 {
     for j in 0..n {
@@ -38,12 +40,13 @@ fn fill(work: &mut [u32], a: usize, n: usize, d: u32)
 }
 
 // Lines 1 to 5, with bound + 1 for ∞. No link word is cleared for line 3: a link is read only where the number
-// is within the bound, and was written with it.
+// is within the bound, and was written with it. The contract gives the definition no links and no weights, since these
+// lines ask for none.
 pub fn initialise(work: &mut [u32], p: Reduced, s: usize)
     requires { ⌜ (p .nodes ≤ 32) × (p .x ≤ 248) × (p .bound ≤ 31000000) ⌝ }
     requires { ⌜ 16384 ≤ length (now work) ⌝ }
     requires { ⌜ s < 32 ⌝ }
-    ensures { λ _. ⌜ now (work .exit) ≡ filled (cell (p .x) s 0) (p .x + 1) 0 (filled 0 (cells (p .nodes) (p .x)) (p .bound + 1) (now (work .entry))) ⌝ }
+    ensures { λ _. ⌜ now (work .exit) ≡ initialised (unflagged p []) (scaledOnly p []) s (now (work .entry)) ⌝ }
 {
     fill(work, 0, cells(p.nodes, p.x), p.bound + 1);
     fill(work, cell(p.x, s, 0), p.x + 1, 0);

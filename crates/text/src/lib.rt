@@ -1,5 +1,6 @@
 // Numbers and fields as text: each function puts its bytes into a lent slice from a place on, and answers the place
-// behind them. What they require, their callers know by counting: a word has at most ten digits.
+// behind them. What they require, their callers know by counting: a word has at most ten digits. The class program and
+// `answer_lines` call them.
 ghost use mathlib.Core.Path.{_≡_};
 ghost use Prim.Native.Nat.{_+_, _*_, _≤_};
 ghost use lib.ListN.{length};

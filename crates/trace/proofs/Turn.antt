@@ -1,14 +1,13 @@
--- One turn of the trace over plain values: the trail stays at s, where the kept word is no link, and where the link
--- costs more than is left; else it goes back along the link. These are the four ways through the test of `stepBack`.
+-- One turn of the trace over plain values, away from s: the trail stays where the kept word is no link and where the
+-- link's scaled weight is more than is left, else it goes back along the link. With `step-home` of `ebf`, at s, these are
+-- the four ways through the test of `stepBack`.
 -- Assumes nothing.
 use mathlib.Core.Path.{_≡_}
 use mathlib.Core.List.{List}
 use Prim.Native.Nat.{ℕ, _-_, _≤_, _<_}
 use lib.ListN.{getD}
-use borrow.Author.Tests.{eq-eqb, ne-eqb, le-leb, lt-leb, lt-ltb, le-ltb}
-use Rattle.network.specs.Net.{Net}
+use borrow.Author.Tests.{ne-eqb, le-leb, lt-leb, lt-ltb, le-ltb}
 use Rattle.network.specs.NodeSet.{inserted}
-use Rattle.network.specs.Problem.{Problem}
 use Rattle.network.specs.Words.{field, netOf}
 use Rattle.network.specs.Cut.{noted}
 use Rattle.ebf.specs.declared.Trail.{Trail}
@@ -16,11 +15,6 @@ use Rattle.ebf.specs.Table.{cell, linkAt}
 use Rattle.ebf.specs.Trace.{stepBack, trailBack}
 use Rattle.table.specs.declared.Reduced.{Reduced}
 use Rattle.table.specs.Solver.{problemOf, unflagged, scaledOnly}
-
--- at s
-pub stays-home : (g : Net) (q : Problem) (work : List ℕ) (s : ℕ) (st : Trail × List ℕ) → st .0 .node ≡ s → stepBack g q work s st ≡ st
-unfolding stepBack
-stays-home g q work s st h = simp (eq-eqb _ _ h)
 
 module _ (p : Reduced) (links scaled work : List ℕ) (s : ℕ) (w : Trail) (next : List ℕ) where
   -- the turn as the code's contract has it
@@ -34,7 +28,7 @@ module _ (p : Reduced) (links scaled work : List ℕ) (s : ℕ) (w : Trail) (nex
     stays-unlisted h = simp (ne-eqb _ _ away, ← kept-here, le-leb _ _ h)
 
     module _ (listed : i < p .links) (step : ℕ) (weighs : step ≡ getD scaled i 0) where
-      -- the link costs more than is left
+      -- the link's scaled weight is more than is left
       pub stays-spent : w .column < step → Turned w next
       unfolding stepBack netOf problemOf
       stays-spent h = simp (ne-eqb _ _ away, ← kept-here, lt-leb _ _ listed, ← weighs, lt-ltb _ _ h)

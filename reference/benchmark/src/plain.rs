@@ -1,5 +1,5 @@
 //! The plain implementation to measure against: the paper's extended Bellman-Ford search, lines 1 to 10 and 20 to 24,
-//! in ordinary safe Rust, with all rounds or ended by a round that changes nothing.
+//! in ordinary safe Rust, with all rounds, ended by a round that changes nothing, or by the proved search's own rule.
 //!
 //! It is meant to be as fast as the paper's lines are when written down with care. The usable links stand in a list of
 //! their own with both weights beside their ends, so the innermost loop has lines 6 to 10 and nothing else; infinity is

@@ -1,9 +1,10 @@
 //! The calls that need no held area: Load, the class and the link file.
 
 use crate::buffer::Lent;
-use crate::memory::{require, Memory};
+use crate::memory::Memory;
 use crate::station::{refused, Answer, Checked};
 use crate::tally::Tally;
+use document01::judge::require;
 use document01::{area, classes, link_file, Rules, Table};
 
 pub fn class(class: u32, memory: &mut Memory, tally: &mut Tally) -> Checked {

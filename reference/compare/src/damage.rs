@@ -1,8 +1,9 @@
 //! Areas with one word changed or too few words.
 
+use document01::area::{CIRCUIT_WORDS, FIRST_CIRCUIT};
 use seeded::Random;
 
-/// What is changed. `Unused` are words that no rule reads.
+/// What is changed. `Unused` are words of the last circuit's place, which no rule reads unless 64 are held.
 #[derive(Clone, Copy, Debug, PartialEq, Eq, PartialOrd, Ord)]
 pub enum Field {
     Nodes,
@@ -55,15 +56,13 @@ pub struct Damage {
     pub change: Change,
 }
 
-const FIRST_CIRCUIT: usize = 1_283;
-const CIRCUIT: usize = 34;
 /// Numbers at which a range of document 01 ends, and the next ones.
 pub const EDGES: [u32; 16] =
     [0, 1, 2, 31, 32, 33, 64, 65, 255, 256, 257, 65_535, 65_536, 1_000_000, 1_000_001, u32::MAX];
 
 /// Where a field stands in link `i` and circuit `j`; `k` is a place in its path.
 fn place(field: Field, i: usize, j: usize, k: usize) -> usize {
-    let (link, circuit) = (3 + 5 * i, FIRST_CIRCUIT + CIRCUIT * j);
+    let (link, circuit) = (3 + 5 * i, FIRST_CIRCUIT + CIRCUIT_WORDS * j);
     match field {
         Field::Nodes => 0,
         Field::Links => 1,
@@ -78,7 +77,7 @@ fn place(field: Field, i: usize, j: usize, k: usize) -> usize {
         Field::Count => circuit + 2,
         Field::PathWord => circuit + 3 + k,
         Field::Length => 0,
-        Field::Unused => FIRST_CIRCUIT + CIRCUIT * 63 + k,
+        Field::Unused => FIRST_CIRCUIT + CIRCUIT_WORDS * 63 + k,
     }
 }
 
@@ -89,7 +88,7 @@ pub fn field_at(word: usize) -> Field {
         1 => Field::Links,
         2 => Field::Held,
         3..FIRST_CIRCUIT => [Field::From, Field::To, Field::Delay, Field::Cost, Field::Capacity][(word - 3) % 5],
-        _ => match (word - FIRST_CIRCUIT) % CIRCUIT {
+        _ => match (word - FIRST_CIRCUIT) % CIRCUIT_WORDS {
             0 => Field::Number,
             1 => Field::Units,
             2 => Field::Count,

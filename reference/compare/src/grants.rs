@@ -1,9 +1,9 @@
 //! Replies to requests: a refusal has the ledger's number, a grant is judged, and the same network and request always
 //! get the same path.
 
-use crate::memory::{require, Memory};
+use crate::memory::Memory;
 use crate::station::{refused, Answer, Checked};
-use document01::judge::{self, Grant};
+use document01::judge::{self, require, Grant};
 use document01::{Ledger, Reply, Rule};
 use line::Request;
 use std::collections::HashMap;

@@ -9,7 +9,7 @@ use crate::station::{Answer, Checked, Station};
 use crate::tally::Tally;
 use document01::{area, Entry, Ledger, Rule, Rules, Table};
 
-/// Which call of the list failed (one past the last: the replay), and how.
+/// Which call of the list failed, and how; one past the last where the two runs differ.
 #[derive(Clone, Debug)]
 pub struct Failure {
     pub call: usize,
@@ -49,6 +49,7 @@ pub fn run(case: &Case, rules: Rules, tally: &mut Tally) -> Result<(), Failure> 
     Ok(())
 }
 
+/// The calls that remain in the second run: with the quotes, all others that book nothing are struck too.
 fn books(call: &Call) -> bool {
     matches!(call, Call::Admit { .. } | Call::Release { .. })
 }

@@ -2,9 +2,9 @@
 //!
 //! A case is a link table and a list of calls, both from one seed (`cases`, `nets`, `requests`, `files`, `damage`), or
 //! one of those that go through everything (`sweep`). It is run on the archive and every call is held against the ledger
-//! (`history`, `station`, `grants`, `apart`), then run once more with its quotes struck. A failure is brought down to its
-//! smallest list (`smallest`). `tally` says what a run has seen, `faults` which rules of the other implementation are
-//! broken to see that the comparison notices.
+//! (`history`, `station`, `grants`, `apart`), in lent memory between guard words (`memory`, `buffer`), then run once
+//! more with its quotes struck. A failure is brought down to its smallest list (`smallest`). `tally` says what a run has
+//! seen, `faults` which rules of the other implementation are broken to see that the comparison notices.
 
 pub mod apart;
 pub mod buffer;

@@ -2,6 +2,7 @@
 //! its table into, the answer array, and words or bytes that a call only reads.
 
 use crate::buffer::{Buffer, Holds, Lent};
+use document01::judge::require;
 
 #[derive(Default)]
 pub struct Memory {
@@ -59,13 +60,5 @@ impl Memory {
         let buffers = [&self.work, &self.out, &self.answer, &self.read];
         require(buffers.iter().all(|buffer| buffer.guards_stand()), "a word beside a buffer changed")?;
         require(self.read.same_from(0), "words that were only to be read changed")
-    }
-}
-
-pub fn require(holds: bool, what: &str) -> Result<(), String> {
-    if holds {
-        Ok(())
-    } else {
-        Err(what.to_string())
     }
 }

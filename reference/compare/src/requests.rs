@@ -1,10 +1,9 @@
 //! Requests: some drawn at large, some around the weights of a walk that is there, some out of range.
 
 use crate::nets::Net;
+use document01::table::MOST_BOUND;
 use line::Request;
 use seeded::Random;
-
-const MOST_BOUND: u32 = 31_000_000;
 
 /// A walk from a random node: where it begins and ends, and its delay and cost.
 fn walk(rng: &mut Random, net: &Net) -> (u32, u32, u32, u32) {

@@ -3,8 +3,9 @@
 use crate::buffer::{Buffer, Lent};
 use crate::cases::Call;
 use crate::grants::{document_request, judged, Choices};
-use crate::memory::{require, Memory};
+use crate::memory::Memory;
 use crate::tally::Tally;
+use document01::judge::require;
 use document01::{area, Entry, Ledger, Reply, Rules};
 use line::Request;
 

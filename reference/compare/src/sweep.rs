@@ -5,14 +5,13 @@ use crate::buffer::{Holds, Lent};
 use crate::cases::{Call, Case};
 use crate::damage::{field_at, Change, Damage, Field, EDGES};
 use crate::nets::Style;
+use document01::area::AREA_WORDS;
 use line::Request;
-
-const AREA: usize = 3_459;
 
 /// A case takes so many words of an area, after one setting up of its circuits.
 const WORDS: usize = 12;
 
-const CASES_AN_AREA: u64 = AREA.div_ceil(WORDS) as u64;
+const CASES_AN_AREA: u64 = AREA_WORDS.div_ceil(WORDS) as u64;
 
 /// How many such cases there are: the words of two areas, the lengths, and the longest path.
 pub const COUNT: u64 = 2 * CASES_AN_AREA + 2;
@@ -48,14 +47,14 @@ fn call(which: usize) -> Call {
 }
 
 fn with_calls(seed: u64, calls: Vec<Call>) -> Case {
-    let area = Lent { words: AREA, holds: Holds::Random(seed) };
+    let area = Lent { words: AREA_WORDS, holds: Holds::Random(seed) };
     Case { seed, style: Style::Tiny, n: 3, words: SMALL.to_vec(), area, calls }
 }
 
 /// Some words of an area with so many circuits held, each set to each number and increased and decreased by one.
 fn damaged(seed: u64, first: usize, held: u32) -> Case {
     let mut calls: Vec<Call> = (1..=held).map(admit).collect();
-    for word in first..AREA.min(first + WORDS) {
+    for word in first..AREA_WORDS.min(first + WORDS) {
         let changes = EDGES.map(Change::To).into_iter().chain([Change::Add(1), Change::Add(u32::MAX)]);
         for (which, change) in changes.enumerate() {
             let damage = Damage { field: field_at(word), word, change };
@@ -91,12 +90,13 @@ fn lengths(seed: u64) -> Case {
     }
     for words in (0..32).chain(1_270..1_292) {
         let words = SMALL.iter().copied().cycle().take(words).collect();
-        calls.push(Call::Load { n: 3, words, area: lent(AREA) });
+        calls.push(Call::Load { n: 3, words, area: lent(AREA_WORDS) });
     }
     with_calls(seed, calls)
 }
 
-/// 32 nodes in a line and 256 links, all weights 1,000,000: x is 248 and the only path adds up to the greatest bound.
+/// 32 nodes in a line, eight links of the greatest weights from each to the next, and eight links back from the last:
+/// x is 248, and every path from end to end adds up to the greatest bound.
 fn longest(seed: u64) -> Case {
     let link = |i: u32| [i % 31, i % 31 + 1, 1_000_000, 1_000_000, 65_535];
     let words = (0..256).flat_map(|i| if i < 248 { link(i) } else { [31, i - 248, 1_000_000, 0, 1] }).collect();

@@ -12,7 +12,8 @@ pub struct Grant {
     pub path: Vec<u32>,
 }
 
-fn require(holds: bool, what: &str) -> Result<(), String> {
+/// An error that says what does not hold.
+pub fn require(holds: bool, what: &str) -> Result<(), String> {
     if holds {
         Ok(())
     } else {

@@ -21,7 +21,7 @@ pub struct Ledger {
     pub entries: Vec<Entry>,
     rules: Rules,
     /// Entries whose units are still taken though they went: none, unless a rule is broken.
-    ghosts: Vec<Entry>,
+    unfreed: Vec<Entry>,
 }
 
 /// Refused with a number, or granted: the problem, and the least kept weight among its solutions.
@@ -33,7 +33,7 @@ pub enum Reply {
 
 impl Ledger {
     pub fn new(table: Table, rules: Rules) -> Ledger {
-        Ledger { table, entries: Vec::new(), rules, ghosts: Vec::new() }
+        Ledger { table, entries: Vec::new(), rules, unfreed: Vec::new() }
     }
 
     pub fn rules(&self) -> Rules {
@@ -47,7 +47,7 @@ impl Ledger {
     /// Every link's free units: its capacity less the units of all entries whose path uses it.
     pub fn free(&self) -> Vec<i64> {
         let mut free: Vec<i64> = self.table.links.iter().map(|link| i64::from(link.capacity)).collect();
-        let taking = self.entries.iter().filter(|_| self.rules.hold(Rule::AdmissionTakes)).chain(&self.ghosts);
+        let taking = self.entries.iter().filter(|_| self.rules.hold(Rule::AdmissionTakes)).chain(&self.unfreed);
         for entry in taking {
             for &link in &entry.path {
                 free[link as usize] -= i64::from(entry.units);
@@ -130,7 +130,7 @@ impl Ledger {
         let at = self.entries.iter().position(|entry| entry.number == number).ok_or(13u32)?;
         let entry = self.entries.remove(at);
         if !self.rules.hold(Rule::ReleaseFrees) {
-            self.ghosts.push(entry);
+            self.unfreed.push(entry);
         }
         Ok(())
     }

@@ -2,18 +2,15 @@
 -- Assumes nothing.
 use native.Mathlib.Omega.{arith}
 use borrow.Author.Needs.{needs}
-use Rattle.answer_lines.proofs.AnswerBytes.{refused-put, granted-put, released-put}
+use Rattle.answer_lines.specs.Answers.{answerText}
 use Rattle.answer_lines.proofs.put_answer.Statement.{statement}
 use Rattle.answer_lines.proofs.put_answer.Tie as tie
 
 enum-known-answer : tie.Need-enum-known-answer
 enum-known-answer c = search needs
 
-slice-aggregate-put-fields : tie.Need-slice-aggregate-put-fields
-slice-aggregate-put-fields c = search needs
-
-put-fields-requires : tie.Need-put-fields-requires
-put-fields-requires c κs = search needs
+put-refused-requires : tie.Need-put-refused-requires
+put-refused-requires c κs = search needs
 
 enum-known-answer-2 : tie.Need-enum-known-answer-2
 enum-known-answer-2 c = search needs
@@ -34,42 +31,38 @@ same-length : tie.Need-same-length
 same-length c = search needs
 
 returns : tie.Need-returns
+unfolding answerText
 returns c =
     let put = c .before .before in
-    let told = put .before .before .before .before in
-    let a = told .before .before .before .before .args in
-    let e = refused-put (a .text .now) (a .answer) (a .path .now) _ _ _ (told .answer .given .1) (put .put-fields .ensures .0, put .put-fields .ensures .1 .1) in
-    ((e .0, omega arith), e .1)
+    let e = put .put-refused .ensures in
+    rw (put .before .before .before .answer .given .1) (e .0, (omega arith, e .1 .1))
 
 same-length-2 : tie.Need-same-length-2
 same-length-2 c = search needs
 
 returns-2 : tie.Need-returns-2
+unfolding answerText
 returns-2 c =
     let put = c .before .before in
-    let told = put .before .before .before in
-    let a = told .before .before .before .before .args in
-    let e = granted-put (a .text .now) (a .answer) (a .path .now) _ _ _ (told .answer2 .given .1) (put .put-granted .ensures .0 .0, put .put-granted .ensures .1) in
-    ((e .0, omega arith), e .1)
+    let e = put .put-granted .ensures in
+    rw (put .before .before .before .answer2 .given .1) e
 
 same-length-3 : tie.Need-same-length-3
 same-length-3 c = search needs
 
 returns-3 : tie.Need-returns-3
+unfolding answerText
 returns-3 c =
     let put = c .before .before in
-    let told = put .before .before .before in
-    let a = told .before .before .before .before .args in
-    let e = released-put (a .text .now) (a .answer) (a .path .now) _ _ (told .enum-told .given .1) (put .put .ensures) in
-    ((e .0, omega arith), e .1)
+    let e = put .put .ensures in
+    rw (put .before .before .before .enum-told .given .1) (e .0, (omega arith, e .1))
 
 pub put-answer-spec : {M : Type 1} → statement M
 put-answer-spec =
     tie.close
     (tie.spec
     enum-known-answer
-    slice-aggregate-put-fields
-    put-fields-requires
+    put-refused-requires
     enum-known-answer-2
     put-granted-requires
     enum-told

@@ -1,5 +1,5 @@
--- `class_lines::put_lines` meets its contract: the lines that are still to put, put from here, come to the same. Six lines of
--- at most 385 bytes fit.
+-- `class_lines::put_lines` meets its contract: the lines that are still to put, put from here, come to the same. Six
+-- lines of at most 385 bytes fit.
 -- Assumes nothing.
 use Prim.Native.Nat.{_*_, _-_, _≤_}
 use native.Mathlib.Omega.{arith}

@@ -13,7 +13,7 @@ use Rattle.area.specs.Station.{Circuit, wordsAt, place, circuitOf, circuits}
 use Rattle.area.specs.Formed.{CircuitFits, unitsFit}
 use Rattle.area_check.specs.Units.{enough, taken, left}
 use Rattle.area_fit.specs.Ready.{Held}
-use Rattle.area.proofs.WordsAt.{words-length}
+use Rattle.area_fit.proofs.CircuitCases.{part-length}
 use Rattle.area_check.proofs.CircuitUnits.{Shared, tableWith, circuit-held, circuit-short, circuit-low, shared-none, circuits-more, circuits-over, shared-fit, left-some, left-none}
 use Rattle.area_check.proofs.units.take_circuits.Statement.{statement}
 use Rattle.area_check.proofs.units.take_circuits.Tie as tie
@@ -31,7 +31,7 @@ module _ (m : ℕ) (words w : List ℕ) (h : ℕ) (held : Held m words w h) (j :
   fits = subst (λ (l : List ℕ). CircuitFits (tableWith m words) (circuitOf l)) (sym is) (circuit-held m words w h held j low)
 
   ready : m ≤ 256 → ((length p ≡ 34) × (getD p 2 0 ≤ 31)) × ((k : ℕ) → k < getD p 2 0 → getD (circuitOf p .path) k 0 < 256)
-  ready few = ((ap length is ∙ words-length w (place j) 34, circuit-short m words p fits), circuit-low m words p few fits)
+  ready few = ((part-length w (place j) 34 is, circuit-short m words p fits), circuit-low m words p few fits)
 
   module _ (free : List ℕ) (shared : Shared words (circuits w j) free) (r : Bool) (told : r ≡ enough (c .units) (c .path) free) where
     -- a link has too few

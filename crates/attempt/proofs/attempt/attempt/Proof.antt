@@ -1,4 +1,4 @@
--- `route::attempt::attempt` meets its contract: the table is the model's, and with it the answer.
+-- `attempt::attempt::attempt` meets its contract: the table is the model's, and with it the answer.
 -- Assumes nothing.
 use mathlib.Core.Path.{_∙_}
 use native.Mathlib.Omega.{arith}

@@ -16,6 +16,9 @@ use Rattle.rules.proofs.Granting.{stored-as, unstored, other-case, granted-shor
 use Rattle.booking.proofs.calls.admit.Statement.{statement}
 use Rattle.booking.proofs.calls.admit.Tie as tie
 
+-- The steps that the facts are taken from, each seen from the one after it: `passed` is past 5 to 8, `numbered` past 11,
+-- `counted` past 12; `answered` has the search's answer, `granted` its grant and `lent` the words of its path.
+
 check-requires : tie.Need-check-requires
 check-requires c κs = search needs
 
@@ -36,11 +39,12 @@ returns c =
 
 number-fits-requires : tie.Need-number-fits-requires
 number-fits-requires c κs =
-    let start = c .before .before .before .before .before .before .before .before .before in
+    let passed = c .before in
+    let start = passed .before .before .before .before .before .before .before .before in
     let w = start .args .area .now in
     let work = length (start .args .work .now) in
     let l = start .args .path .now in
-    let p = all-passed w work (length l) (start .args .r) (sym (c .before .if1 .left) ∙ c .before .before .refusal .ensures) in
+    let p = all-passed w work (length l) (start .args .r) (sym (passed .if1 .left) ∙ passed .before .refusal .ensures) in
     p .formed
 
 same-length-2 : tie.Need-same-length-2
@@ -48,21 +52,23 @@ same-length-2 c = search needs
 
 returns-2 : tie.Need-returns-2
 returns-2 c =
-    let start = c .before .before .before .before .before .before .before .before .before .before .before in
+    let passed = c .before .before .before in
+    let start = passed .before .before .before .before .before .before .before .before in
     let w = start .args .area .now in
     let work = length (start .args .work .now) in
     let l = start .args .path .now in
-    let p = all-passed w work (length l) (start .args .r) (sym (c .before .before .before .if1 .left) ∙ c .before .before .before .before .refusal .ensures) in
+    let p = all-passed w work (length l) (start .args .r) (sym (passed .if1 .left) ∙ passed .before .refusal .ensures) in
     refusal-admitted w work l (start .args .circuit) (start .args .r) 11
     (fails-11 w work (length l) (start .args .circuit) (start .args .r) p (sym (c .before .number-fits .ensures) ∙ not-true _ (c .if2 .taken)))
 
 slice-read-if3 : tie.Need-slice-read-if3
 slice-read-if3 c =
-    let start = c .before .before .before .before .before .before .before .before .before .before .before .before in
+    let passed = c .before .before .before .before in
+    let start = passed .before .before .before .before .before .before .before .before in
     let w = start .args .area .now in
     let work = length (start .args .work .now) in
     let l = start .args .path .now in
-    let p = all-passed w work (length l) (start .args .r) (sym (c .before .before .before .before .if1 .left) ∙ c .before .before .before .before .before .refusal .ensures) in
+    let p = all-passed w work (length l) (start .args .r) (sym (passed .if1 .left) ∙ passed .before .refusal .ensures) in
     omega (arith, formed-long w (p .formed))
 
 same-length-3 : tie.Need-same-length-3
@@ -70,22 +76,33 @@ same-length-3 c = search needs
 
 returns-3 : tie.Need-returns-3
 returns-3 c =
-    let start = c .before .before .before .before .before .before .before .before .before .before .before .before .before in
+    let numbered = c .before .before in
+    let passed = numbered .before .before .before in
+    let start = passed .before .before .before .before .before .before .before .before in
     let w = start .args .area .now in
     let work = length (start .args .work .now) in
     let l = start .args .path .now in
-    let p = all-passed w work (length l) (start .args .r) (sym (c .before .before .before .before .before .if1 .left) ∙ c .before .before .before .before .before .before .refusal .ensures) in
+    let p = all-passed w work (length l) (start .args .r) (sym (passed .if1 .left) ∙ passed .before .refusal .ensures) in
     refusal-admitted w work l (start .args .circuit) (start .args .r) 12
-    (fails-12 w work (length l) (start .args .circuit) (start .args .r) p (sym (c .before .before .before .number-fits .ensures) ∙ not-false _ (c .before .before .if2 .left)) (c .if3 .taken))
+    (fails-12 w work (length l) (start .args .circuit) (start .args .r) p
+    (sym (numbered .before .number-fits .ensures) ∙ not-false _ (numbered .if2 .left))
+    (c .if3 .taken))
 
 seek-requires : tie.Need-seek-requires
 seek-requires c κs =
-    let start = c .before .before .before .before .before .before .before .before .before .before .before .before .before .before .before .before .before .before in
+    let passed = c .before .before .before .before .before .before .before .before .before .before in
+    let start = passed .before .before .before .before .before .before .before .before in
     let w = start .args .area .now in
     let work = length (start .args .work .now) in
     let l = start .args .path .now in
-    let p = all-passed w work (length l) (start .args .r) (sym (c .before .before .before .before .before .before .before .before .before .before .if1 .left) ∙ c .before .before .before .before .before .before .before .before .before .before .before .refusal .ensures) in
-    record { formed = p .formed; units = c .before .before .before .before .before .before .before .before .before .before .before .before .before .check .ensures .1; memory = p .memory; buffer = p .buffer; request = p .request }
+    let p = all-passed w work (length l) (start .args .r) (sym (passed .if1 .left) ∙ passed .before .refusal .ensures) in
+    record {
+      formed = p .formed;
+      units = passed .before .before .before .check .ensures .1;
+      memory = p .memory;
+      buffer = p .buffer;
+      request = p .request;
+    }
 
 enum-known-answer : tie.Need-enum-known-answer
 enum-known-answer c = search needs
@@ -101,13 +118,18 @@ same-length-6 c = search needs
 
 returns-4 : tie.Need-returns-4
 returns-4 c =
-    let start = c .before .before .before .before .before .before .before .before .before .before .before .before .before .before .before .before .before .before .before .before .before .before .before .before in
+    let answered = c .before .before .before .before .before in
+    let counted = answered .before .before .before .before .before .before in
+    let numbered = counted .before .before in
+    let passed = numbered .before .before .before in
+    let start = passed .before .before .before .before .before .before .before .before in
     let w = start .args .area .now in
     let work = length (start .args .work .now) in
     let l = start .args .path .now in
-    let p = all-passed w work (length l) (start .args .r) (sym (c .before .before .before .before .before .before .before .before .before .before .before .before .before .before .before .before .if1 .left) ∙ c .before .before .before .before .before .before .before .before .before .before .before .before .before .before .before .before .before .refusal .ensures) in
-    let is = searches w work (length l) (start .args .circuit) (start .args .r) p (sym (c .before .before .before .before .before .before .before .before .before .before .before .before .before .before .number-fits .ensures) ∙ not-false _ (c .before .before .before .before .before .before .before .before .before .before .before .before .before .if2 .left)) (c .before .before .before .before .before .before .before .before .before .before .before .if3 .left) in
-    let found = c .before .before .before .before .before .seek .ensures in
+    let p = all-passed w work (length l) (start .args .r) (sym (passed .if1 .left) ∙ passed .before .refusal .ensures) in
+    let new = sym (numbered .before .number-fits .ensures) ∙ not-false _ (numbered .if2 .left) in
+    let is = searches w work (length l) (start .args .circuit) (start .args .r) p new (counted .if3 .left) in
+    let found = answered .seek .ensures in
     let other = other-case (tagOf the-type) (λ g. refl) _ (c .match .keys2) in
     admitted-as w work l (start .args .circuit) (start .args .r) (sought (booksIn w) (start .args .r)) is _ (found .0) _ (found .1) w
     (unstored w (start .args .circuit) (start .args .r .units) (sought (booksIn w) (start .args .r)) (λ g e. other g (found .0 ∙ e)))
@@ -117,22 +139,31 @@ wide-requires c κs = search needs
 
 part-requires : tie.Need-part-requires
 part-requires c κs =
-    let start = c .before .before .before .before .before .before .before .before .before .before .before .before .before .before .before .before .before .before .before .before .before .before .before .before .before .before .before .before .before in
+    let granted = c .before .before .before .before in
+    let answered = granted .before .before .before .before .before .before in
+    let passed = answered .before .before .before .before .before .before .before .before .before .before .before in
+    let start = passed .before .before .before .before .before .before .before .before in
     let w = start .args .area .now in
     let work = length (start .args .work .now) in
     let l = start .args .path .now in
-    let p = all-passed w work (length l) (start .args .r) (sym (c .before .before .before .before .before .before .before .before .before .before .before .before .before .before .before .before .before .before .before .before .before .if1 .left) ∙ c .before .before .before .before .before .before .before .before .before .before .before .before .before .before .before .before .before .before .before .before .before .before .refusal .ensures) in
-    omega (arith, granted-short w (start .args .r) (p .formed) (p .request) _ (sym (c .before .before .before .before .before .before .before .before .before .before .seek .ensures .0) ∙ c .before .before .before .before .answer .given .1), c .wide .ensures, p .buffer, c .before .before .before .before .before .before .before .before .before .before .seek .kept .1)
+    let p = all-passed w work (length l) (start .args .r) (sym (passed .if1 .left) ∙ passed .before .refusal .ensures) in
+    let short = granted-short w (start .args .r) (p .formed) (p .request) _ (sym (answered .seek .ensures .0) ∙ granted .answer .given .1) in
+    omega (arith, short, c .wide .ensures, p .buffer, answered .seek .kept .1)
 
 add-requires : tie.Need-add-requires
 add-requires c κs =
-    let start = c .before .before .before .before .before .before .before .before .before .before .before .before .before .before .before .before .before .before .before .before .before .before .before .before .before .before .before .before .before .before in
+    let granted = c .before .before .before .before .before in
+    let answered = granted .before .before .before .before .before .before in
+    let counted = answered .before .before .before .before .before .before in
+    let passed = counted .before .before .before .before .before in
+    let start = passed .before .before .before .before .before .before .before .before in
     let w = start .args .area .now in
     let work = length (start .args .work .now) in
     let l = start .args .path .now in
-    let p = all-passed w work (length l) (start .args .r) (sym (c .before .before .before .before .before .before .before .before .before .before .before .before .before .before .before .before .before .before .before .before .before .before .if1 .left) ∙ c .before .before .before .before .before .before .before .before .before .before .before .before .before .before .before .before .before .before .before .before .before .before .before .refusal .ensures) in
-    let count = part-length (c .before .before .before .before .before .before .before .before .before .before .before .seek .last .1 .1 .1 .0) 0 (c .before .wide .result) (c .part .ensures) in
-    (formed-long w (p .formed), (c .before .before .before .before .before .before .before .before .before .before .before .before .before .before .before .before .before .if3 .left, omega (arith, granted-short w (start .args .r) (p .formed) (p .request) _ (sym (c .before .before .before .before .before .before .before .before .before .before .before .seek .ensures .0) ∙ c .before .before .before .before .before .answer .given .1), c .before .wide .ensures, count)))
+    let p = all-passed w work (length l) (start .args .r) (sym (passed .if1 .left) ∙ passed .before .refusal .ensures) in
+    let short = granted-short w (start .args .r) (p .formed) (p .request) _ (sym (answered .seek .ensures .0) ∙ granted .answer .given .1) in
+    let count = part-length (answered .seek .last .1 .1 .1 .0) 0 (c .before .wide .result) (c .part .ensures) in
+    (formed-long w (p .formed), (counted .if3 .left, omega (arith, short, c .before .wide .ensures, count)))
 
 same-length-7 : tie.Need-same-length-7
 same-length-7 c = search needs
@@ -145,16 +176,26 @@ same-length-9 c = search needs
 
 returns-5 : tie.Need-returns-5
 returns-5 c =
-    let start = c .before .before .before .before .before .before .before .before .before .before .before .before .before .before .before .before .before .before .before .before .before .before .before .before .before .before .before .before .before .before .before .before .before in
+    let lent = c .before .before .before in
+    let granted = lent .before .before .before .before .before in
+    let answered = granted .before .before .before .before .before .before in
+    let counted = answered .before .before .before .before .before .before in
+    let numbered = counted .before .before in
+    let passed = numbered .before .before .before in
+    let start = passed .before .before .before .before .before .before .before .before in
     let w = start .args .area .now in
     let work = length (start .args .work .now) in
     let l = start .args .path .now in
-    let p = all-passed w work (length l) (start .args .r) (sym (c .before .before .before .before .before .before .before .before .before .before .before .before .before .before .before .before .before .before .before .before .before .before .before .before .before .if1 .left) ∙ c .before .before .before .before .before .before .before .before .before .before .before .before .before .before .before .before .before .before .before .before .before .before .before .before .before .before .refusal .ensures) in
-    let is = searches w work (length l) (start .args .circuit) (start .args .r) p (sym (c .before .before .before .before .before .before .before .before .before .before .before .before .before .before .before .before .before .before .before .before .before .before .before .number-fits .ensures) ∙ not-false _ (c .before .before .before .before .before .before .before .before .before .before .before .before .before .before .before .before .before .before .before .before .before .before .if2 .left)) (c .before .before .before .before .before .before .before .before .before .before .before .before .before .before .before .before .before .before .before .before .if3 .left) in
-    let found = c .before .before .before .before .before .before .before .before .before .before .before .before .before .before .seek .ensures in
-    let grant = c .before .before .before .before .before .before .before .before .answer .given .1 in
+    let p = all-passed w work (length l) (start .args .r) (sym (passed .if1 .left) ∙ passed .before .refusal .ensures) in
+    let new = sym (numbered .before .number-fits .ensures) ∙ not-false _ (numbered .if2 .left) in
+    let is = searches w work (length l) (start .args .circuit) (start .args .r) p new (counted .if3 .left) in
+    let found = answered .seek .ensures in
+    let grant = granted .answer .given .1 in
     let booked-so =
-    stored-as w (start .args .circuit) (start .args .r .units) _ l (sought (booksIn w) (start .args .r)) (sym (found .0) ∙ grant) _ (found .1) _ (c .before .before .before .before .wide .ensures) _ (c .before .before .before .part .ensures) in
+    stored-as w (start .args .circuit) (start .args .r .units) _ l (sought (booksIn w) (start .args .r)) (sym (found .0) ∙ grant) _ (found .1) _
+    (lent .before .wide .ensures)
+    _
+    (lent .part .ensures) in
     admitted-as w work l (start .args .circuit) (start .args .r) (sought (booksIn w) (start .args .r)) is _ (sym grant ∙ found .0) _ (found .1) _
     (c .before .before .add .ensures ∙ booked-so)
 

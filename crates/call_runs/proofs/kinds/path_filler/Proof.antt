@@ -1,15 +1,15 @@
 -- `call_runs::kinds::path_filler` meets its contract, by the run.
 -- Assumes nothing.
-use Rattle.call_list.specs.Calls.{filler}
+use Rattle.call_list.specs.Calls.{pathFiller}
 use Rattle.call_runs.proofs.kinds.path_filler.Statement.{statement}
 use Rattle.call_runs.proofs.kinds.path_filler.Tie as tie
 
 returns : tie.Need-returns
-unfolding filler
+unfolding pathFiller
 returns c = simp (c .if1 .taken)
 
 returns-2 : tie.Need-returns-2
-unfolding filler
+unfolding pathFiller
 returns-2 c = simp (c .if1 .left)
 
 pub path-filler-spec : {M : Type 1} → statement M

@@ -1,5 +1,5 @@
--- `call_runs::list::every_call` meets its contract. What the calls that are left do to the area at hand is what the whole list
--- does to the first one.
+-- `call_runs::list::every_call` meets its contract. What the calls that are left do to the area at hand is what the
+-- whole list does to the first one.
 -- Assumes nothing.
 use Prim.Native.Nat.{_-_, _≤_}
 use mathlib.Core.Path.{_≡_, refl}

@@ -1,5 +1,5 @@
--- `call_runs::list::lend_and_call` meets its contract: the parts that it lends are the words that the row's kind is lent, since no kind
--- is lent more than the whole.
+-- `call_runs::list::lend_and_call` meets its contract: the parts that it lends are the words that the row's kind is
+-- lent, since no kind is lent more than the whole.
 -- Assumes nothing.
 use mathlib.Core.Path.{sym}
 use native.Mathlib.Omega.{arith}
@@ -10,8 +10,8 @@ use Rattle.call_list.proofs.CallCases.{work-as, path-as, lent-as}
 use Rattle.call_runs.proofs.list.lend_and_call.Statement.{statement}
 use Rattle.call_runs.proofs.list.lend_and_call.Tie as tie
 
-rubbish-requires : tie.Need-rubbish-requires
-rubbish-requires c κs = search needs
+work-filler-requires : tie.Need-work-filler-requires
+work-filler-requires c κs = search needs
 
 path-filler-requires : tie.Need-path-filler-requires
 path-filler-requires c κs = search needs
@@ -53,7 +53,7 @@ returns c =
     let word = fill .before in
     let a = word .before .args in
     lent-as (a .struck) (a .k) (a .t4) (a .area .now) (made .call .last .0) _ _
-    (work-as (a .struck) (a .k) (a .t4) (works .lent .result) (word .rubbish .result) (works .lent .ensures .0) (word .rubbish .ensures))
+    (work-as (a .struck) (a .k) (a .t4) (works .lent .result) (word .work-filler .result) (works .lent .ensures .0) (word .work-filler .ensures))
     (path-as (a .struck) (a .k) (a .t4) (paths .lent2 .result) (fill .path-filler .result) (paths .lent2 .ensures .0) (fill .path-filler .ensures))
     (made .call .ensures)
 
@@ -61,7 +61,7 @@ pub lend-and-call-spec : {M : Type 1} → statement M
 lend-and-call-spec =
     tie.close
     (tie.spec
-    rubbish-requires
+    work-filler-requires
     path-filler-requires
     array-read-lent
     lent-requires

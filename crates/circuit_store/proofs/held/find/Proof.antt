@@ -45,7 +45,9 @@ returns : tie.Need-returns Inv-loop μ-loop
 unfolding foundAt
 returns c =
     let loop = c .before .before .before .before in
-    first-here _ (loop .before .before .args .h) (loop .loop .j) (loop .loop .inv .0) (omega arith) (same (loop .before .before .args .area .now) _ _ _ (c .before .before .place .ensures) (c .if1 .taken))
+    let a = loop .before .before .args in
+    first-here _ (a .h) (loop .loop .j) (loop .loop .inv .0) (omega arith)
+    (same (a .area .now) _ _ _ (c .before .before .place .ensures) (c .if1 .taken))
 
 add-j : tie.Need-add-j Inv-loop μ-loop
 add-j c = search needs

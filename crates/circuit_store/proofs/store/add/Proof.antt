@@ -59,7 +59,7 @@ slice-write-area-4 : tie.Need-slice-write-area-4
 slice-write-area-4 c = simp (c .before .before .put .ensures, length-sets, length-set) (omega arith)
 
 same-length : tie.Need-same-length
-same-length c = length-set (c .before .before .put .last .0) 2 _ ∙ ap length (c .before .before .put .ensures) ∙ simp (length-sets, length-set)
+same-length c = length-set (c .before .before .put .last .0) _ _ ∙ ap length (c .before .before .put .ensures) ∙ simp (length-sets, length-set)
 
 returns : tie.Need-returns
 returns c =

@@ -1,5 +1,5 @@
--- `class_quotes::report::put_file` meets its contract: the reader says which of the two outputs it is, and the first words of the
--- table are the records.
+-- `class_quotes::report::put_file` meets its contract: the reader says which of the two outputs it is, and the first
+-- words of the table are the records.
 -- Assumes nothing.
 use mathlib.Core.Path.{sym, ap, _∙_}
 use native.Mathlib.Omega.{arith}

@@ -1,4 +1,5 @@
--- `class_quotes::report::put_quotes` meets its contract: the load says which of the two outputs it is, and a loaded area has nodes.
+-- `class_quotes::report::put_quotes` meets its contract: the load says which of the two outputs it is, and a loaded area
+-- has nodes.
 -- Assumes nothing.
 use mathlib.Core.Path.{sym, ap, _∙_}
 use mathlib.Core.List.{List}

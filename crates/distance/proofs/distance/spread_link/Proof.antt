@@ -1,4 +1,5 @@
--- `distance::distance::spread_link` meets its contract: the tests are the model's, and both ends of a link are nodes below 32.
+-- `distance::distance::spread_link` meets its contract: the tests are the model's, and both ends of a link are nodes
+-- below 32.
 -- Assumes nothing.
 use mathlib.Core.Path.{sym, _∙_}
 use native.Mathlib.Omega.{arith}

@@ -1,27 +1,23 @@
 -- `history::bookings::circuit` meets its contract: a circuit's words are of the area, and its path has at most 31.
 -- Assumes nothing.
-use Prim.Native.Nat.{_+_}
 use mathlib.Core.Path.{ap}
 use native.Mathlib.Omega.{arith}
 use borrow.Author.Needs.{needs}
 use lib.ListN.{length}
-use Rattle.area.proofs.WordsAt.{words-length}
 use Rattle.history.proofs.bookings.circuit.Statement.{statement}
 use Rattle.history.proofs.bookings.circuit.Tie as tie
 
-slice-aggregate-write-all : tie.Need-slice-aggregate-write-all
-slice-aggregate-write-all c = search needs
-
-write-all-requires : tie.Need-write-all-requires
-write-all-requires c κs = search needs
+slice-aggregate-put-fields : tie.Need-slice-aggregate-put-fields
+slice-aggregate-put-fields c = search needs
 
 part-requires : tie.Need-part-requires
 part-requires c κs = search needs
 
-write-fields-requires : tie.Need-write-fields-requires
-write-fields-requires c κs =
-    let a = c .before .before .before .before .args in
-    omega (arith, ap length (c .part .ensures), words-length (a .area .now) (a .at) 2)
+put-fields-requires : tie.Need-put-fields-requires
+put-fields-requires c κs = omega (arith, ap length (c .part .ensures))
+
+slice-aggregate-put-path : tie.Need-slice-aggregate-put-path
+slice-aggregate-put-path c = search needs
 
 add-part : tie.Need-add-part
 add-part c = search needs
@@ -29,20 +25,33 @@ add-part c = search needs
 part-requires-2 : tie.Need-part-requires-2
 part-requires-2 c κs = search needs
 
-add-write-path : tie.Need-add-write-path
-add-write-path c = search needs
+add-put-path : tie.Need-add-put-path
+add-put-path c = search needs
 
-mul-write-path : tie.Need-mul-write-path
-mul-write-path c = search needs
+mul-put-path : tie.Need-mul-put-path
+mul-put-path c = search needs
 
-element-copy-out-write-path : tie.Need-element-copy-out-write-path
-element-copy-out-write-path c = search needs
+element-copy-out-put-path : tie.Need-element-copy-out-put-path
+element-copy-out-put-path c = search needs
 
-write-path-requires : tie.Need-write-path-requires
-write-path-requires c κs =
+put-path-requires : tie.Need-put-path-requires
+put-path-requires c κs =
     let path = c .before in
-    let a = path .before .before .before .before .before .before .before .args in
-    omega (arith, ap length (path .part2 .ensures), words-length (a .area .now) (a .at + 3) 31)
+    omega (arith, ap length (path .before .before .before .before .before .part .ensures), ap length (path .part2 .ensures))
+
+slice-aggregate-write-all : tie.Need-slice-aggregate-write-all
+slice-aggregate-write-all c = search needs
+
+write-all-requires : tie.Need-write-all-requires
+write-all-requires c κs = search needs
+
+slice-aggregate-write-text : tie.Need-slice-aggregate-write-text
+slice-aggregate-write-text c = search needs
+
+write-text-requires : tie.Need-write-text-requires
+write-text-requires c κs =
+    let path = c .before .before .before .before .before .before in
+    omega (arith, ap length (path .before .before .before .before .before .part .ensures), ap length (path .part2 .ensures))
 
 returns : tie.Need-returns
 returns c = search needs
@@ -51,14 +60,18 @@ pub circuit-spec : {M : Type 1} → statement M
 circuit-spec =
     tie.close
     (tie.spec
-    slice-aggregate-write-all
-    write-all-requires
+    slice-aggregate-put-fields
     part-requires
-    write-fields-requires
+    put-fields-requires
+    slice-aggregate-put-path
     add-part
     part-requires-2
-    add-write-path
-    mul-write-path
-    element-copy-out-write-path
-    write-path-requires
+    add-put-path
+    mul-put-path
+    element-copy-out-put-path
+    put-path-requires
+    slice-aggregate-write-all
+    write-all-requires
+    slice-aggregate-write-text
+    write-text-requires
     returns)

@@ -1,5 +1,5 @@
--- `link_records::word::is_signed` meets its contract: the length and the letters are looked at in the definition's order, and
--- the first that differs decides.
+-- `link_records::word::is_signed` meets its contract: the length and the letters are looked at in the definition's
+-- order, and the first that differs decides.
 -- Assumes nothing.
 use mathlib.Core.Path.{_≡_}
 use mathlib.Core.Bool.{false}

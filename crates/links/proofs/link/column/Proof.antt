@@ -1,4 +1,5 @@
--- `links::link::column` meets its contract: the loop fills the column entry by entry, and past the table's end both sides are 0.
+-- `links::link::column` meets its contract: the loop fills the column entry by entry, and past the table's end both
+-- sides are 0.
 -- Assumes nothing.
 use Prim.Native.Nat.{_-_, _≤_}
 use native.Mathlib.Omega.{arith}

@@ -1,4 +1,5 @@
--- `station::load::load` meets its contract: the first check that fails refuses; where all pass, the stores make the loaded area.
+-- `loading::load::load` meets its contract: the first check that fails refuses; where all pass, the stores make the
+-- loaded area.
 -- Assumes nothing.
 use mathlib.Core.Path.{sym, _∙_}
 use native.Mathlib.Omega.{arith}

@@ -9,6 +9,9 @@ use Rattle.rules.proofs.Granting.{quoted-as, refusal-quoted}
 use Rattle.quotes.proofs.quote.quote.Statement.{statement}
 use Rattle.quotes.proofs.quote.quote.Tie as tie
 
+-- The steps that the facts are taken from, each seen from the one after it: `passed` is past 5 to 8, `answered` has the
+-- search's answer.
+
 check-requires : tie.Need-check-requires
 check-requires c κs = search needs
 
@@ -25,12 +28,19 @@ returns c =
 
 seek-requires : tie.Need-seek-requires
 seek-requires c κs =
-    let start = c .before .before .before .before .before .before .before .before .before .before in
+    let passed = c .before .before .before .before in
+    let start = passed .before .before .before .before .before .before in
     let w = start .args .area .now in
     let work = length (start .args .work .now) in
     let l = start .args .path .now in
-    let p = all-passed w work (length l) (start .args .r) (sym (c .before .before .before .before .if1 .left) ∙ c .before .before .before .before .before .refusal .ensures) in
-    record { formed = p .formed; units = c .before .before .before .before .before .before .check .ensures .1; memory = p .memory; buffer = p .buffer; request = p .request }
+    let p = all-passed w work (length l) (start .args .r) (sym (passed .if1 .left) ∙ passed .before .refusal .ensures) in
+    record {
+      formed = p .formed;
+      units = passed .before .before .check .ensures .1;
+      memory = p .memory;
+      buffer = p .buffer;
+      request = p .request;
+    }
 
 same-length : tie.Need-same-length
 same-length c = search needs
@@ -40,13 +50,16 @@ same-length-2 c = search needs
 
 returns-2 : tie.Need-returns-2
 returns-2 c =
-    let start = c .before .before .before .before .before .before .before .before .before .before .before .before .before .before .before in
+    let answered = c .before .before .before .before in
+    let passed = answered .before .before .before .before .before in
+    let start = passed .before .before .before .before .before .before in
     let w = start .args .area .now in
     let work = length (start .args .work .now) in
     let l = start .args .path .now in
-    let p = all-passed w work (length l) (start .args .r) (sym (c .before .before .before .before .before .before .before .before .before .if1 .left) ∙ c .before .before .before .before .before .before .before .before .before .before .refusal .ensures) in
-    let found = c .before .before .before .before .seek .ensures in
-    quoted-as w work l (start .args .r) (sought (booksIn w) (start .args .r)) (quote-passed w work (length l) (start .args .r) p) _ (found .0) _ (found .1)
+    let p = all-passed w work (length l) (start .args .r) (sym (passed .if1 .left) ∙ passed .before .refusal .ensures) in
+    let found = answered .seek .ensures in
+    quoted-as w work l (start .args .r) (sought (booksIn w) (start .args .r)) (quote-passed w work (length l) (start .args .r) p) _ (found .0) _
+    (found .1)
 
 pub quote-spec : {M : Type 1} → statement M
 quote-spec =

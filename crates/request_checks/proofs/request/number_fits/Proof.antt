@@ -1,36 +1,25 @@
 -- `request_checks::request::number_fits` meets its contract: a number in its range fits where it is found at no place.
 -- Assumes nothing.
-use Prim.Native.Nat.{ℕ, _≤_}
-use mathlib.Core.Path.{_≡_, sym, ap, _∙_}
+use Prim.Native.Nat.{ℕ}
+use mathlib.Core.Path.{_≡_, sym, _∙_}
 use mathlib.Core.Bool.{true}
 use mathlib.Core.List.{List}
 use native.Mathlib.Omega.{arith}
 use lib.Dec.{eqb}
 use lib.ListN.{getD}
 use borrow.Author.Needs.{needs}
-use borrow.Author.Tests.{not-true, not-false, eq-eqb, ne-eqb}
-use Rattle.network.proofs.Loops.{first-most}
-use Rattle.network.proofs.Tests.{by-lt}
-use Rattle.area.specs.Held.{numberAt, foundAt}
+use borrow.Author.Tests.{not-true, not-false}
+use Rattle.area.specs.Held.{foundAt}
 use Rattle.area.specs.Formed.{inRange}
 use Rattle.station.proofs.ReadCases.{formed-long, formed-held}
 use Rattle.rules.specs.Calls.{booksIn, numberFits}
-use Rattle.rules.proofs.CallCases.{number-out, number-held, number-new}
+use Rattle.rules.proofs.CallCases.{number-out, number-left}
 use Rattle.request_checks.proofs.request.number_fits.Statement.{statement}
 use Rattle.request_checks.proofs.request.number_fits.Tie as tie
 
--- a number is found at a place of a circuit, or at h
-found-most : (w : List ℕ) (h k : ℕ) → foundAt w h k ≤ h
-unfolding foundAt
-found-most w h k = first-most (λ j. eqb k (numberAt w j)) h
-
--- it fits where it is found at h
+-- a number in its range fits where the search for it comes to the end
 found-decides : (w : List ℕ) (k h j : ℕ) → inRange 1 65535 k ≡ true → h ≡ getD w 2 0 → j ≡ foundAt w h k → eqb j h ≡ numberFits (booksIn w) k
-found-decides w k h j range count found =
-    let held : foundAt w h k ≡ foundAt w (getD w 2 0) k = ap (λ (n : ℕ). foundAt w n k) count in
-    by-lt j h
-    (λ low. ne-eqb j h (λ e. omega arith) ∙ number-held w k range (omega arith))
-    (λ high. eq-eqb j h (omega (arith, found-most w h k)) ∙ number-new w k range (omega arith))
+found-decides w k h j range count found = rw (found, count) (number-left w k range)
 
 in-range-requires : tie.Need-in-range-requires
 in-range-requires c κs = search needs

@@ -8,6 +8,9 @@ use Rattle.request_checks.proofs.RequestCases.{source-high, target-high
 use Rattle.request_checks.proofs.request.request_fits.Statement.{statement}
 use Rattle.request_checks.proofs.request.request_fits.Tie as tie
 
+-- The steps that the facts are taken from, each seen from the one after it: `units`, `delay` and `cost` are past these
+-- ranges.
+
 returns : tie.Need-returns
 returns c = let start = c .before .before in source-high (start .args .n) (start .args .r) (omega arith)
 
@@ -35,10 +38,10 @@ in-range-requires-2 c κs = search needs
 
 returns-5 : tie.Need-returns-5
 returns-5 c =
-    let at = c .before .before in
-    let start = at .before .before .before .before .before .before .before .before in
+    let units = c .before .before in
+    let start = units .before .before .before .before .before .before .before .before in
     delay-out (start .args .n) (start .args .r) (omega arith) (omega arith) (λ e. omega arith)
-    (sym (at .before .in-range .ensures) ∙ not-false _ (at .if4 .left))
+    (sym (units .before .in-range .ensures) ∙ not-false _ (units .if4 .left))
     (sym (c .before .in-range2 .ensures) ∙ not-true _ (c .if5 .taken))
 
 in-range-requires-3 : tie.Need-in-range-requires-3
@@ -46,12 +49,12 @@ in-range-requires-3 c κs = search needs
 
 returns-6 : tie.Need-returns-6
 returns-6 c =
-    let by = c .before .before in
-    let at = by .before .before in
-    let start = at .before .before .before .before .before .before .before .before in
+    let delay = c .before .before in
+    let units = delay .before .before in
+    let start = units .before .before .before .before .before .before .before .before in
     cost-out (start .args .n) (start .args .r) (omega arith) (omega arith) (λ e. omega arith)
-    (sym (at .before .in-range .ensures) ∙ not-false _ (at .if4 .left))
-    (sym (by .before .in-range2 .ensures) ∙ not-false _ (by .if5 .left))
+    (sym (units .before .in-range .ensures) ∙ not-false _ (units .if4 .left))
+    (sym (delay .before .in-range2 .ensures) ∙ not-false _ (delay .if5 .left))
     (sym (c .before .in-range3 .ensures) ∙ not-true _ (c .if6 .taken))
 
 in-range-requires-4 : tie.Need-in-range-requires-4
@@ -59,15 +62,15 @@ in-range-requires-4 c κs = search needs
 
 returns-7 : tie.Need-returns-7
 returns-7 c =
-    let past = c .before in
-    let by = past .before .before in
-    let at = by .before .before in
-    let start = at .before .before .before .before .before .before .before .before in
+    let cost = c .before in
+    let delay = cost .before .before in
+    let units = delay .before .before in
+    let start = units .before .before .before .before .before .before .before .before in
     c .in-range4 .ensures
     ∙ coefficient-left (start .args .n) (start .args .r) (omega arith) (omega arith) (λ e. omega arith)
-    (sym (at .before .in-range .ensures) ∙ not-false _ (at .if4 .left))
-    (sym (by .before .in-range2 .ensures) ∙ not-false _ (by .if5 .left))
-    (sym (past .before .in-range3 .ensures) ∙ not-false _ (past .if6 .left))
+    (sym (units .before .in-range .ensures) ∙ not-false _ (units .if4 .left))
+    (sym (delay .before .in-range2 .ensures) ∙ not-false _ (delay .if5 .left))
+    (sym (cost .before .in-range3 .ensures) ∙ not-false _ (cost .if6 .left))
 
 pub request-fits-spec : {M : Type 1} → statement M
 request-fits-spec =

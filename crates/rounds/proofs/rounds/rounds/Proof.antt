@@ -1,4 +1,5 @@
--- `rounds::rounds::rounds` meets its contract: a round that changed nothing leaves nothing for the rest of them.
+-- `rounds::rounds::rounds` meets its contract: after a round that another would not change, the rest of them
+-- would change nothing.
 -- Assumes nothing.
 use mathlib.Core.Path.{_≡_, refl, _∙_}
 use Prim.Native.Nat.{_-_, _≤_}

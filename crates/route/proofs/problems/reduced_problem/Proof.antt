@@ -1,6 +1,5 @@
 -- `route::problems::reduced_problem` meets its contract: the columns hold the weights in their roles.
 -- Assumes nothing.
-use mathlib.Core.Path.{sym, _∙_}
 use native.Mathlib.Omega.{arith}
 use Rattle.route.proofs.Reductions.{weight-light, roles-sound, roles-answer}
 use borrow.Author.Needs.{needs}
@@ -35,7 +34,7 @@ attempt-requires c κs =
     let from = c .before .before .before .before .before .before .before .wide .ensures in
     let to = c .before .before .before .before .before .before .wide2 .ensures in (
       roles-sound (args .n) (args .m) (args .links .now) (args .usable .now) (args .r) (args .x) (args .w) _ ready (start .pre .1 .0) (start .pre .1 .1) (c .before .before .before .before .before .column .ensures),
-      (ready .memory, ready .buffer, omega (arith, from, ready .source), omega (arith, to, ready .target), λ e. ready .apart (sym from ∙ e ∙ to)),
+      (ready .memory, ready .buffer, omega (arith, from, ready .source), omega (arith, to, ready .target)),
     )
 
 same-length : tie.Need-same-length

@@ -1,5 +1,5 @@
--- `scaled_weights::weights::scaled_column` meets its contract: the loop fills the column entry by entry, and past the table's end a
--- weight of 0 is scaled to 0. Assumes nothing.
+-- `scaled_weights::weights::scaled_column` meets its contract: the loop fills the column entry by entry, and past the
+-- table's end a weight of 0 is scaled to 0. Assumes nothing.
 use mathlib.Core.Path.{_≡_, ap, _∙_}
 use Prim.Native.Nat.{ℕ, _-_, _≤_, _<_}
 use native.Mathlib.Nat.{zero-mul, zero-add, div-eq-of-lt}

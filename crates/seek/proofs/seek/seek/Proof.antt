@@ -10,6 +10,9 @@ use Rattle.rules.proofs.Granting.{told-reply, path-reply}
 use Rattle.seek.proofs.seek.seek.Statement.{statement}
 use Rattle.seek.proofs.seek.seek.Tie as tie
 
+-- The steps that the facts are taken from, each seen from the one after it: `numbered` has n, `counted` m, `lent` the link
+-- words, `flagged` the flags, `searched` the search's answer.
+
 shared-slice-read-wide : tie.Need-shared-slice-read-wide
 shared-slice-read-wide c =
     let start = c .before .before .before .before in
@@ -44,9 +47,14 @@ slice-aggregate-search c = search needs
 
 search-requires : tie.Need-search-requires
 search-requires c κs =
-    let start = c .before .before .before .before .before .before .before .before .before .before .before .before in
-    search-ready (start .args .area .now) (start .args .free .now) (c .before .before .before .usable .result) (start .args .work .now) (start .args .path .now) (start .args .r) (start .pre) (omega arith)
-    (c .before .before .before .usable .ensures) _ _ _ (c .before .before .before .before .before .before .before .wide .ensures) (c .before .before .before .before .before .wide2 .ensures) (c .before .before .before .before .part .ensures)
+    let flagged = c .before .before .before in
+    let lent = flagged .before in
+    let counted = lent .before in
+    let numbered = counted .before .before in
+    let start = numbered .before .before .before .before .before in
+    search-ready (start .args .area .now) (start .args .free .now) (flagged .usable .result) (start .args .work .now) (start .args .path .now)
+    (start .args .r) (start .pre) (omega arith) (flagged .usable .ensures) _ _ _ (numbered .wide .ensures) (counted .wide2 .ensures)
+    (lent .part .ensures)
 
 numbered-requires : tie.Need-numbered-requires
 numbered-requires c κs = search needs
@@ -59,14 +67,18 @@ same-length-2 c = search needs
 
 returns : tie.Need-returns
 returns c =
-    let start = c .before .before .before .before .before .before .before .before .before .before .before .before .before .before .before .before .before .before in
+    let searched = c .before .before .before .before .before in
+    let flagged = searched .before .before .before .before in
+    let lent = flagged .before in
+    let counted = lent .before in
+    let numbered = counted .before .before in
+    let start = numbered .before .before .before .before .before in
     let w = start .args .area .now in
     let l = start .args .path .now in
-    let at = c .before .before .before .before .before .before in
     let is =
-    reply-is w (start .args .free .now) (at .before .before .before .usable .result) (start .args .work .now) l (start .args .r) (start .pre) (omega arith)
-    (at .before .before .before .usable .ensures) _ _ _ (at .before .before .before .before .before .before .before .wide .ensures) (at .before .before .before .before .before .wide2 .ensures) (at .before .before .before .before .part .ensures) in
-    let found = c .before .before .before .before .before .search .ensures in (
+    reply-is w (start .args .free .now) (flagged .usable .result) (start .args .work .now) l (start .args .r) (start .pre) (omega arith)
+    (flagged .usable .ensures) _ _ _ (numbered .wide .ensures) (counted .wide2 .ensures) (lent .part .ensures) in
+    let found = searched .search .ensures in (
       c .numbered .ensures ∙ ap told (found .0) ∙ told-reply _ _ ∙ ap answerOf is,
       found .1 ∙ path-reply _ _ l ∙ ap (λ (a : Reply). pathAfter a l) is,
     )

@@ -54,11 +54,13 @@ array-read-t9 c =
 
 returns-3 : tie.Need-returns-3
 returns-3 c =
-    let at = c .before .before .before .before .before in
+    let numbered = c .before .before .before .before in
+    let at = numbered .before in
     let start = at .before .before .before .before in
     let w = start .args .area .now in
-    value w (at .before .before .check .result .free) (at .before .before .check .ensures .1) (c .before .before .before .before .wide .result) (start .args .link) (c .before .before .before .before .wide .ensures)
-    ∙ free-value w (start .args .link) (sym (at .before .before .check .ensures .0) ∙ not-false _ (at .if1 .left)) (omega arith)
+    let told = at .before .before .check .ensures in
+    value w (at .before .before .check .result .free) (told .1) (numbered .wide .result) (start .args .link) (numbered .wide .ensures)
+    ∙ free-value w (start .args .link) (sym (told .0) ∙ not-false _ (at .if1 .left)) (omega arith)
 
 pub free-units-spec : {M : Type 1} → statement M
 free-units-spec =

@@ -1,6 +1,9 @@
 -- `table::table::initialise` meets its contract: all cells, then the row of s.
 -- Assumes nothing.
 use native.Mathlib.Omega.{arith}
+use Rattle.network.specs.Words.{netOf}
+use Rattle.ebf.specs.Table.{initialised}
+use Rattle.table.specs.Solver.{problemOf}
 use Rattle.table.proofs.Rows.{row-fits}
 use borrow.Author.Needs.{needs}
 use Rattle.table.proofs.table.initialise.Statement.{statement}
@@ -28,6 +31,7 @@ same-length : tie.Need-same-length
 same-length c = search needs
 
 returns : tie.Need-returns
+unfolding initialised netOf problemOf
 returns c = cc
 
 pub initialise-spec : {M : Type 1} → statement M

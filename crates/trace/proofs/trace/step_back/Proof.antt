@@ -3,12 +3,13 @@
 use borrow.Author.Needs.{needs}
 use native.Mathlib.Omega.{arith}
 use mathlib.Core.Path.{sym}
-use Rattle.trace.proofs.Turn.{stays-home, stays-unlisted, stays-spent, goes-back}
+use Rattle.ebf.proofs.Trace.{step-home}
+use Rattle.trace.proofs.Turn.{stays-unlisted, stays-spent, goes-back}
 use Rattle.trace.proofs.trace.step_back.Statement.{statement}
 use Rattle.trace.proofs.trace.step_back.Tie as tie
 
 returns : tie.Need-returns
-returns c = (sym (stays-home _ _ _ _ _ (c .if1 .taken)), search needs)
+returns c = (sym (step-home _ _ _ _ _ (c .if1 .taken)), search needs)
 
 kept-link-requires : tie.Need-kept-link-requires
 kept-link-requires c κs = search needs

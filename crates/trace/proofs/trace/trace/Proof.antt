@@ -11,9 +11,9 @@ use Rattle.network.specs.Words.{netOf}
 use Rattle.network.proofs.Loops.{iter-none, iter-more, iter-done, iter-stays}
 use Rattle.ebf.specs.declared.Trail.{Trail}
 use Rattle.ebf.specs.Trace.{stepBack, traced}
+use Rattle.ebf.proofs.Trace.{step-home}
 use Rattle.table.specs.Solver.{problemOf, unflagged, scaledOnly}
 use Rattle.trace.specs.OnTable.{OnTable}
-use Rattle.trace.proofs.Turn.{stays-home}
 use Rattle.trace.proofs.trace.trace.Statement.{statement}
 use Rattle.trace.proofs.trace.trace.Tie as tie
 
@@ -36,7 +36,7 @@ returns c =
     let l = c .before .before .before .loop in
     let n = c .before .before .before .before .cells .result in
     ap (λ (st : Trail × List ℕ). st .1)
-    (iter-done _ _ _ _ (iter-stays _ (l .counter) (n - l .counter) _ _ (l .inv .0) (λ _. stays-home _ _ _ _ _ (c .if1 .taken))) (omega arith))
+    (iter-done _ _ _ _ (iter-stays _ (l .counter) (n - l .counter) _ _ (l .inv .0) (λ _. step-home _ _ _ _ _ (c .if1 .taken))) (omega arith))
 
 step-back-requires : tie.Need-step-back-requires Inv-loop μ-loop
 step-back-requires c κs = search needs
