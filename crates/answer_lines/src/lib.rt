@@ -46,7 +46,8 @@ fn path_told(words: &[u32], links: u32) -> &[u32]
     &words[..l]
 }
 
-// The links of a path that stands in the first of these words.
+// The links of a path that stands in the first of these words. `history` lends a text with room for all of them, and
+// `put_granted` leaves as much.
 pub fn put_path(text: &mut [u8], at: usize, words: &[u32], links: u32) -> usize
     requires { ⌜ at + 11 * length (now words) + 1 ≤ length (now text) ⌝ }
     ensures end { λ r. ⌜ r ≡ at + length (pathText links (now (words .entry))) ⌝ }
@@ -68,7 +69,8 @@ fn put_granted(text: &mut [u8], at: usize, g: Grant, path: &[u32]) -> usize
     put_path(text, end, path, g.links)
 }
 
-// What a call answered, with the words of its path buffer.
+// What a call answered, with the words of its path buffer. The programs lend a text of 375 bytes and a path buffer of at
+// most 31 words.
 pub fn put_answer(text: &mut [u8], at: usize, answer: Answer, path: &[u32]) -> usize
     requires { ⌜ at + 11 * length (now path) + 34 ≤ length (now text) ⌝ }
     ensures end { λ r. ⌜ r ≡ at + length (answerText answer (now (path .entry))) ⌝ }
@@ -82,7 +84,7 @@ pub fn put_answer(text: &mut [u8], at: usize, answer: Answer, path: &[u32]) -> u
     }
 }
 
-// What a listing or a question for free units answered.
+// What a listing or a question for free units answered. The programs lend room for two fields and the newline.
 pub fn put_reading(text: &mut [u8], at: usize, reading: Reading) -> usize
     requires { ⌜ at + 23 ≤ length (now text) ⌝ }
     ensures end { λ r. ⌜ r ≡ at + length (readingText reading) ⌝ }
@@ -98,7 +100,7 @@ pub fn put_reading(text: &mut [u8], at: usize, reading: Reading) -> usize
     }
 }
 
-// What a load answered, as a line of its own.
+// What a load answered, as a line of its own. The programs lend a text of 13 bytes.
 pub fn put_loading(text: &mut [u8], at: usize, loading: Loading) -> usize
     requires { ⌜ at + 13 ≤ length (now text) ⌝ }
     ensures end { λ r. ⌜ r ≡ at + length (loadingText loading) ⌝ }

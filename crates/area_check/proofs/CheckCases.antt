@@ -51,7 +51,7 @@ module _ (w : List ℕ) where
   abbrev words : List ℕ
   words = wordsAt w 3 (5 * m)
 
-  abbrev table : Table
+  abbrev pub table : Table
   table = record { nodes = n; links = m; words = words }
 
   -- what has been checked before the circuits

@@ -52,7 +52,8 @@ pub fn unfit() -> Checked
     }
 }
 
-// Whether the first `h` circuits take at most each link's capacity, and what is then left.
+// Whether the first `h` circuits take at most each link's capacity, and what is then left. `check` comes here past its
+// other tests, which are what it requires.
 pub fn take_circuits(m: usize, links: &[u32], area: &[u32], h: usize) -> Checked
     requires { ⌜ Links m (now links) ⌝ }
     requires { ⌜ Held m (now links) (now area) h ⌝ }

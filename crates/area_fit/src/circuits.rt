@@ -82,7 +82,8 @@ fn place_fits(m: usize, links: &[u32], area: &[u32], j: usize) -> bool
     find(area, j, area[at]) == j
 }
 
-// Whether the first `h` circuits fit and their numbers differ.
+// Whether the first `h` circuits fit and their numbers differ. The check of an area calls it past its tests of the
+// length, the links and `h`.
 pub fn circuits_fit(m: usize, links: &[u32], area: &[u32], h: usize) -> bool
     requires { ⌜ Links m (now links) ⌝ }
     requires { ⌜ Room (now area) h ⌝ }

@@ -31,7 +31,7 @@ fn link_fits(n: u32, m: usize, links: &[u32], i: usize) -> bool
     link::word(links, i, link::CAPACITY) <= 65535
 }
 
-// Whether every link fits.
+// Whether every link fits. Load has counted the words before, and the check of an area lends five for each link.
 pub fn links_fit(n: u32, m: usize, links: &[u32]) -> bool
     requires { ⌜ length (now links) ≡ 5 * m ⌝ }
     requires { ⌜ m ≤ 256 ⌝ }

@@ -45,7 +45,7 @@ fn found(
 
 // Problem `which`: `kept` is the column of the weight that is kept, `scaled` that of the other one scaled. After lines 20
 // to 24 it has a solution where d[t, x] is within the bound, since d[t, x] covers every scaled weight up to x. Work
-// memory is open after.
+// memory is open after. `route` calls it with columns and numbers within the ranges that `search` requires.
 pub fn attempt(
     work: &mut [u32],
     path: &mut [u32],

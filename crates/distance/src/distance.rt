@@ -46,7 +46,7 @@ fn spread(n: usize, m: usize, links: &[u32], usable: &[u32], set: u32) -> u32
     more
 }
 
-// The fewest links of a usable path from `s` to `t`, or `n` where there is none.
+// The fewest links of a usable path from `s` to `t`, or `n` where there is none. `search` requires as much and calls it.
 pub fn distance(n: usize, m: usize, links: &[u32], usable: &[u32], s: usize, t: usize) -> usize
     requires { ⌜ Links n m (now links) ⌝ }
     requires { ⌜ m ≤ length (now usable) ⌝ }

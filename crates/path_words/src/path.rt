@@ -43,7 +43,7 @@ fn advance(
     }
 }
 
-// The path from s to t.
+// The path from s to t. `attempt` calls it with the notes of a trace, and requires the rest itself.
 pub fn forward(
     n: usize,
     m: usize,

@@ -55,7 +55,7 @@ fn round(
     due
 }
 
-// Lines 21 to 24.
+// Lines 21 to 24. `attempt` calls it on a table that `initialise` has bounded.
 pub fn rounds(
     work: &mut [u32],
     links: &[u32],

@@ -46,7 +46,8 @@ fn reduced_problem(
     attempt(work, path, links, usable, &kept, &scaled, p, s, t, w.which)
 }
 
-// The answer for request `r` at `x`: the second problem is tried only where the first has no solution.
+// The answer for request `r` at `x`: the second problem is tried only where the first has no solution. `search` calls it
+// with x at most 248, and requires the rest itself.
 pub fn both_problems(
     n: usize,
     m: usize,

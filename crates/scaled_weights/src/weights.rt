@@ -7,7 +7,8 @@ ghost use Rattle.network.specs.Words.{field};
 use links::link::word;
 use links::scale::scale;
 
-// The scaled weight of every link, formula 1, where word `j` of a link is the weight.
+// The scaled weight of every link, formula 1, where word `j` of a link is the weight. `route` calls it with a delay or a
+// cost for the word and with its bound, which are in their ranges.
 pub fn scaled_column(links: &[u32], m: usize, j: usize, x: usize, bound: u32) -> [u32; 256]
     requires { ⌜ (m ≤ 256) × (j < 5) × (x ≤ 248) × (0 < bound) × (bound ≤ 31000000) ⌝ }
     requires { ⌜ length (now links) ≡ 5 * m ⌝ }

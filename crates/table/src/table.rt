@@ -8,7 +8,7 @@ ghost use Rattle.ebf.specs.Table.{cell, cells, filled, initialised};
 ghost use Rattle.table.specs.Solver.{unflagged, scaledOnly};
 use crate::Reduced;
 
-// The cell of d[v, k].
+// The cell of d[v, k]. The callers have v below 32, x at most 248 and k at most x, from what `search` requires.
 pub fn cell(x: usize, v: usize, k: usize) -> usize
     requires { ⌜ v < 32 ⌝ }
     requires { ⌜ x ≤ 248 ⌝ }
@@ -19,7 +19,7 @@ pub fn cell(x: usize, v: usize, k: usize) -> usize
     v * (x + 1) + k
 }
 
-// How many cells the table has.
+// How many cells the table has. The callers have at most 32 nodes and x at most 248.
 pub fn cells(n: usize, x: usize) -> usize
     requires { ⌜ n ≤ 32 ⌝ }
     requires { ⌜ x ≤ 248 ⌝ }
@@ -41,7 +41,7 @@ fn fill(work: &mut [u32], a: usize, n: usize, d: u32)
 
 // Lines 1 to 5, with bound + 1 for ∞. No link word is cleared for line 3: a link is read only where the number
 // is within the bound, and was written with it. The contract gives the definition no links and no weights, since these
-// lines ask for none.
+// lines ask for none. `attempt` calls it, with work memory of the length that document 01 asks for.
 pub fn initialise(work: &mut [u32], p: Reduced, s: usize)
     requires { ⌜ (p .nodes ≤ 32) × (p .x ≤ 248) × (p .bound ≤ 31000000) ⌝ }
     requires { ⌜ 16384 ≤ length (now work) ⌝ }

@@ -76,7 +76,7 @@ fn step_back(
     }
 }
 
-// The notes of the trail from (t, x) back to s.
+// The notes of the trail from (t, x) back to s. `attempt` calls it on a finished table, and requires the rest itself.
 pub fn trace(
     work: &[u32],
     links: &[u32],

@@ -1,18 +1,52 @@
 -- `area_check::check::check` meets its contract: one part of well-formedness after the other.
 -- Assumes nothing.
-use mathlib.Core.Path.{sym, _∙_}
+use Prim.Native.Nat.{ℕ}
+use mathlib.Core.Path.{_≡_, sym, _∙_}
+use mathlib.Core.Bool.{true}
+use mathlib.Core.List.{List}
 use native.Mathlib.Omega.{arith}
 use borrow.Author.Needs.{needs}
 use borrow.Author.Tests.{not-true, not-false}
 use lib.ListN.{getD}
+use Rattle.area.specs.Formed.{inRange, linksFit}
 use Rattle.area.proofs.Formed.{range-says}
+use Rattle.area_fit.specs.Ready.{Links}
 use Rattle.area_fit.proofs.CircuitCases.{part-length}
-use Rattle.area_check.proofs.CheckCases.{links-ready, units-decide, area-short, nodes-out, links-many, link-out, circuits-many, circuit-out, links-same, held-same, units-same, left-same}
+use Rattle.area_check.proofs.CheckCases.{table, links-ready, units-decide, area-short, nodes-out, links-many, link-out, circuits-many, circuit-out, links-same, held-same, units-same, left-same}
 use Rattle.area_check.proofs.check.check.Statement.{statement}
 use Rattle.area_check.proofs.check.check.Tie as tie
 
--- The steps that the facts are taken from, each seen from the one after it: `long` is past the length, `ranged` past n,
--- `counted` has m, `lent` the link words; `linked` is past the links, `held` has h, `tested` is past the circuits.
+-- What a step has shown is taken from that step: `long` is past the length, `ranged` past n, `linked` past the links,
+-- `tested` past the circuits; `counted` has m, `lent` the link words and `held` has h.
+abbrev areaAt : tie.Else1 → List ℕ
+areaAt long = long .before .before .args .area .now
+
+abbrev longAt : tie.Else2 → tie.Else1
+longAt ranged = ranged .before .before .before
+
+abbrev rangedAt : tie.Else4 → tie.Else2
+rangedAt linked = linked .before .before .before .before .before .before
+
+abbrev wordsAt : tie.Else4 → List ℕ
+wordsAt linked = areaAt (longAt (rangedAt linked))
+
+-- past n: it is in its range
+nodes-in : (ranged : tie.Else2) → inRange 2 32 (getD (areaAt (longAt ranged)) 0 0) ≡ true
+nodes-in ranged = sym (ranged .before .in-range .ensures) ∙ not-false _ (ranged .if2 .left)
+
+-- past the links: they fit, and so they are what the functions on circuits rely on
+links-in : (linked : tie.Else4) → linksFit (table (wordsAt linked)) ≡ true
+links-in linked =
+    let lent = linked .before .before in
+    sym (links-same (wordsAt linked) (lent .before .before .wide .ensures) (lent .part .ensures) _) ∙ sym (linked .before .links-fit .ensures)
+    ∙ not-false _ (linked .if4 .left)
+
+links-known : (linked : tie.Else4) → Links (linked .before .before .before .before .wide .result) (linked .before .before .part .result .now)
+links-known linked =
+    let w = wordsAt linked in
+    links-ready (getD w 0 0) _ _ (range-says 2 32 (getD w 0 0) (nodes-in (rangedAt linked)) .1) (omega arith)
+    (part-length w 3 _ (linked .before .before .part .ensures))
+    (sym (linked .before .links-fit .ensures) ∙ not-false _ (linked .if4 .left))
 
 unfit-requires : tie.Need-unfit-requires
 unfit-requires c κs = search needs
@@ -35,8 +69,7 @@ returns-2 : tie.Need-returns-2
 returns-2 c =
     let ranged = c .before in
     let long = ranged .before .before .before in
-    let w = long .before .before .args .area .now in
-    nodes-out w (c .unfit2 .result) (c .unfit2 .ensures .0) (c .unfit2 .ensures .1) (long .if1 .left)
+    nodes-out (areaAt long) (c .unfit2 .result) (c .unfit2 .ensures .0) (c .unfit2 .ensures .1) (long .if1 .left)
     (sym (ranged .before .in-range .ensures) ∙ not-true _ (ranged .if2 .taken))
 
 shared-slice-read-wide : tie.Need-shared-slice-read-wide
@@ -51,11 +84,8 @@ unfit-requires-3 c κs = search needs
 returns-3 : tie.Need-returns-3
 returns-3 c =
     let ranged = c .before .before .before .before in
-    let long = ranged .before .before .before in
-    let w = long .before .before .args .area .now in
-    links-many w (c .unfit3 .result) (c .unfit3 .ensures .0) (c .unfit3 .ensures .1) (long .if1 .left)
-    (sym (ranged .before .in-range .ensures) ∙ not-false _ (ranged .if2 .left))
-    (omega arith)
+    links-many (areaAt (longAt ranged)) (c .unfit3 .result) (c .unfit3 .ensures .0) (c .unfit3 .ensures .1) (longAt ranged .if1 .left)
+    (nodes-in ranged) (omega arith)
 
 mul-part : tie.Need-mul-part
 mul-part c = search needs
@@ -77,12 +107,10 @@ returns-4 c =
     let lent = linked .before .before in
     let counted = lent .before .before in
     let ranged = counted .before .before in
-    let long = ranged .before .before .before in
-    let w = long .before .before .args .area .now in
-    let nodes = sym (ranged .before .in-range .ensures) ∙ not-false _ (ranged .if2 .left) in
-    let same = links-same w (counted .wide .ensures) (lent .part .ensures) _ in
-    link-out w (c .unfit4 .result) (c .unfit4 .ensures .0) (c .unfit4 .ensures .1) (long .if1 .left) nodes (omega arith)
-    (sym same ∙ sym (linked .before .links-fit .ensures) ∙ not-true _ (linked .if4 .taken))
+    let w = areaAt (longAt ranged) in
+    link-out w (c .unfit4 .result) (c .unfit4 .ensures .0) (c .unfit4 .ensures .1) (longAt ranged .if1 .left) (nodes-in ranged) (omega arith)
+    (sym (links-same w (counted .wide .ensures) (lent .part .ensures) _) ∙ sym (linked .before .links-fit .ensures)
+    ∙ not-true _ (linked .if4 .taken))
 
 shared-slice-read-wide-2 : tie.Need-shared-slice-read-wide-2
 shared-slice-read-wide-2 c = search needs
@@ -96,29 +124,14 @@ unfit-requires-5 c κs = search needs
 returns-5 : tie.Need-returns-5
 returns-5 c =
     let linked = c .before .before .before .before in
-    let lent = linked .before .before in
-    let counted = lent .before .before in
-    let ranged = counted .before .before in
-    let long = ranged .before .before .before in
-    let w = long .before .before .args .area .now in
-    let nodes = sym (ranged .before .in-range .ensures) ∙ not-false _ (ranged .if2 .left) in
-    let same = links-same w (counted .wide .ensures) (lent .part .ensures) _ in
-    let links = sym same ∙ sym (linked .before .links-fit .ensures) ∙ not-false _ (linked .if4 .left) in
-    circuits-many w (c .unfit5 .result) (c .unfit5 .ensures .0) (c .unfit5 .ensures .1) (long .if1 .left) nodes (omega arith) links
-    (omega arith)
+    let ranged = rangedAt linked in
+    circuits-many (wordsAt linked) (c .unfit5 .result) (c .unfit5 .ensures .0) (c .unfit5 .ensures .1) (longAt ranged .if1 .left)
+    (nodes-in ranged) (omega arith) (links-in linked) (omega arith)
 
 circuits-fit-requires : tie.Need-circuits-fit-requires
 circuits-fit-requires c κs =
     let linked = c .before .before .before in
-    let lent = linked .before .before in
-    let ranged = lent .before .before .before .before in
-    let long = ranged .before .before .before in
-    let w = long .before .before .args .area .now in
-    let nodes = sym (ranged .before .in-range .ensures) ∙ not-false _ (ranged .if2 .left) in
-    let links = sym (linked .before .links-fit .ensures) ∙ not-false _ (linked .if4 .left) in (
-      links-ready (getD w 0 0) _ _ (range-says 2 32 (getD w 0 0) nodes .1) (omega arith) (part-length w 3 _ (lent .part .ensures)) links,
-      record { long = long .if1 .left; few = omega arith },
-    )
+    (links-known linked, record { long = longAt (rangedAt linked) .if1 .left; few = omega arith })
 
 unfit-requires-6 : tie.Need-unfit-requires-6
 unfit-requires-6 c κs = search needs
@@ -129,30 +142,19 @@ returns-6 c =
     let held = tested .before .before .before in
     let linked = held .before .before in
     let lent = linked .before .before in
-    let counted = lent .before .before in
-    let ranged = counted .before .before in
-    let long = ranged .before .before .before in
-    let w = long .before .before .args .area .now in
-    let nodes = sym (ranged .before .in-range .ensures) ∙ not-false _ (ranged .if2 .left) in
-    let same = links-same w (counted .wide .ensures) (lent .part .ensures) _ in
-    let links = sym same ∙ sym (linked .before .links-fit .ensures) ∙ not-false _ (linked .if4 .left) in
-    let same-held = held-same w (counted .wide .ensures) (lent .part .ensures) (held .wide2 .ensures) in
-    circuit-out w (c .unfit6 .result) (c .unfit6 .ensures .0) (c .unfit6 .ensures .1) (long .if1 .left) nodes (omega arith) links
-    (omega arith)
+    let ranged = rangedAt linked in
+    let w = wordsAt linked in
+    let same-held = held-same w (lent .before .before .wide .ensures) (lent .part .ensures) (held .wide2 .ensures) in
+    circuit-out w (c .unfit6 .result) (c .unfit6 .ensures .0) (c .unfit6 .ensures .1) (longAt ranged .if1 .left) (nodes-in ranged)
+    (omega arith) (links-in linked) (omega arith)
     (sym same-held ∙ sym (tested .before .circuits-fit .ensures) ∙ not-true _ (tested .if6 .taken))
 
 take-circuits-requires : tie.Need-take-circuits-requires
 take-circuits-requires c κs =
-    let linked = c .before .before .before .before .before in
-    let lent = linked .before .before in
-    let ranged = lent .before .before .before .before in
-    let long = ranged .before .before .before in
-    let w = long .before .before .args .area .now in
-    let nodes = sym (ranged .before .in-range .ensures) ∙ not-false _ (ranged .if2 .left) in
-    let links = sym (linked .before .links-fit .ensures) ∙ not-false _ (linked .if4 .left) in (
-      links-ready (getD w 0 0) _ _ (range-says 2 32 (getD w 0 0) nodes .1) (omega arith) (part-length w 3 _ (lent .part .ensures)) links,
+    let linked = c .before .before .before .before .before in (
+      links-known linked,
       record {
-        room = record { long = long .if1 .left; few = omega arith };
+        room = record { long = longAt (rangedAt linked) .if1 .left; few = omega arith };
         fit = sym (c .before .circuits-fit .ensures) ∙ not-false _ (c .if6 .left);
       },
     )
@@ -163,19 +165,16 @@ returns-7 c =
     let held = tested .before .before .before in
     let linked = held .before .before in
     let lent = linked .before .before in
-    let counted = lent .before .before in
-    let ranged = counted .before .before in
-    let long = ranged .before .before .before in
-    let w = long .before .before .args .area .now in
-    let nodes = sym (ranged .before .in-range .ensures) ∙ not-false _ (ranged .if2 .left) in
-    let same = links-same w (counted .wide .ensures) (lent .part .ensures) _ in
-    let links = sym same ∙ sym (linked .before .links-fit .ensures) ∙ not-false _ (linked .if4 .left) in
-    let same-held = held-same w (counted .wide .ensures) (lent .part .ensures) (held .wide2 .ensures) in
-    let fit = sym same-held ∙ sym (tested .before .circuits-fit .ensures) ∙ not-false _ (tested .if6 .left) in
+    let ranged = rangedAt linked in
+    let w = wordsAt linked in
+    let is-m = lent .before .before .wide .ensures in
+    let is-words = lent .part .ensures in
+    let is-h = held .wide2 .ensures in
+    let fit = sym (held-same w is-m is-words is-h) ∙ sym (tested .before .circuits-fit .ensures) ∙ not-false _ (tested .if6 .left) in
     let units = c .take-circuits .ensures in
-    units-decide w (long .if1 .left) nodes (omega arith) links (omega arith) (c .take-circuits .result) fit
-    (units .0 ∙ units-same w (counted .wide .ensures) (lent .part .ensures) (held .wide2 .ensures))
-    (λ i. units .1 i ∙ left-same w (counted .wide .ensures) (lent .part .ensures) (held .wide2 .ensures) i)
+    units-decide w (longAt ranged .if1 .left) (nodes-in ranged) (omega arith) (links-in linked) (omega arith) (c .take-circuits .result) fit
+    (units .0 ∙ units-same w is-m is-words is-h)
+    (λ i. units .1 i ∙ left-same w is-m is-words is-h i)
 
 pub check-spec : {M : Type 1} → statement M
 check-spec =

@@ -1,7 +1,9 @@
 -- `booking::calls::admit` meets its contract: the checks in their order, then the search; a grant's path is read back from
 -- the path buffer and stored, and any other answer stores nothing.
 -- Assumes nothing.
-use mathlib.Core.Path.{refl, sym, _∙_}
+use Prim.Native.Nat.{ℕ}
+use mathlib.Core.Path.{_≡_, refl, sym, _∙_}
+use mathlib.Core.List.{List}
 use native.Mathlib.Omega.{arith}
 use borrow.Author.Needs.{needs}
 use borrow.Author.Tests.{not-true, not-false}
@@ -9,15 +11,52 @@ use denote.Enum.Declared.{tagOf}
 use lib.ListN.{length}
 use Rattle.station.proofs.ReadCases.{formed-long}
 use Rattle.area_fit.proofs.CircuitCases.{part-length}
-use Rattle.rules.specs.Calls.{booksIn, sought}
+use Rattle.network.specs.declared.Request.{Request}
+use Rattle.rules.specs.Calls.{booksIn, sought, admission}
 use Rattle.rules.proofs.Answer.{the-type}
-use Rattle.rules.proofs.CallCases.{all-passed, admission-refused, fails-11, fails-12, searches}
+use Rattle.rules.proofs.CallCases.{Passed, all-passed, admission-refused, fails-11, fails-12, searches}
 use Rattle.rules.proofs.Granting.{stored-as, unstored, other-case, granted-short, admitted-as, refusal-admitted}
 use Rattle.booking.proofs.calls.admit.Statement.{statement}
 use Rattle.booking.proofs.calls.admit.Tie as tie
 
--- The steps that the facts are taken from, each seen from the one after it: `passed` is past 5 to 8, `numbered` past 11,
--- `counted` past 12; `answered` has the search's answer, `granted` its grant and `lent` the words of its path.
+-- What a step has shown is taken from that step: `passed` is past 5 to 8, `numbered` past 11, `counted` past 12;
+-- `answered` has the search's answer, `granted` its grant and `lent` the words of its path.
+abbrev startOf : tie.Else1 → tie.Start
+startOf passed = passed .before .before .before .before .before .before .before .before
+
+abbrev areaAt : tie.Else1 → List ℕ
+areaAt passed = startOf passed .args .area .now
+
+abbrev workAt : tie.Else1 → ℕ
+workAt passed = length (startOf passed .args .work .now)
+
+abbrev bufferAt : tie.Else1 → List ℕ
+bufferAt passed = startOf passed .args .path .now
+
+abbrev circuitAt : tie.Else1 → ℕ
+circuitAt passed = startOf passed .args .circuit
+
+abbrev requestAt : tie.Else1 → Request
+requestAt passed = startOf passed .args .r
+
+-- past 5 to 8, the search may be asked
+past-eight : (passed : tie.Else1) → Passed (areaAt passed) (workAt passed) (length (bufferAt passed)) (requestAt passed)
+past-eight passed = all-passed _ _ _ _ (sym (passed .if1 .left) ∙ passed .before .refusal .ensures)
+
+abbrev passedAt : tie.Else3 → tie.Else1
+passedAt counted = counted .before .before .before .before .before
+
+-- past 12, the search's reply is the admission's
+abbrev Searches : tie.Else1 → Type 0
+Searches passed =
+    sought (booksIn (areaAt passed)) (requestAt passed)
+    ≡ admission (areaAt passed) (workAt passed) (length (bufferAt passed)) (circuitAt passed) (requestAt passed)
+
+past-twelve : (counted : tie.Else3) → Searches (passedAt counted)
+past-twelve counted =
+    let numbered = counted .before .before in
+    searches _ _ _ _ _ (past-eight (passedAt counted)) (sym (numbered .before .number-fits .ensures) ∙ not-false _ (numbered .if2 .left))
+    (omega (arith, counted .if3 .left))
 
 check-requires : tie.Need-check-requires
 check-requires c κs = search needs
@@ -38,14 +77,7 @@ returns c =
     (admission-refused w work (length l) (start .args .circuit) (start .args .r) _ (c .before .refusal .ensures) (c .if1 .taken))
 
 number-fits-requires : tie.Need-number-fits-requires
-number-fits-requires c κs =
-    let passed = c .before in
-    let start = passed .before .before .before .before .before .before .before .before in
-    let w = start .args .area .now in
-    let work = length (start .args .work .now) in
-    let l = start .args .path .now in
-    let p = all-passed w work (length l) (start .args .r) (sym (passed .if1 .left) ∙ passed .before .refusal .ensures) in
-    p .formed
+number-fits-requires c κs = past-eight (c .before) .formed
 
 same-length-2 : tie.Need-same-length-2
 same-length-2 c = search needs
@@ -53,23 +85,12 @@ same-length-2 c = search needs
 returns-2 : tie.Need-returns-2
 returns-2 c =
     let passed = c .before .before .before in
-    let start = passed .before .before .before .before .before .before .before .before in
-    let w = start .args .area .now in
-    let work = length (start .args .work .now) in
-    let l = start .args .path .now in
-    let p = all-passed w work (length l) (start .args .r) (sym (passed .if1 .left) ∙ passed .before .refusal .ensures) in
-    refusal-admitted w work l (start .args .circuit) (start .args .r) 11
-    (fails-11 w work (length l) (start .args .circuit) (start .args .r) p (sym (c .before .number-fits .ensures) ∙ not-true _ (c .if2 .taken)))
+    refusal-admitted (areaAt passed) (workAt passed) (bufferAt passed) (circuitAt passed) (requestAt passed) 11
+    (fails-11 _ _ _ _ _ (past-eight passed) (sym (c .before .number-fits .ensures) ∙ not-true _ (c .if2 .taken)))
 
 slice-read-if3 : tie.Need-slice-read-if3
 slice-read-if3 c =
-    let passed = c .before .before .before .before in
-    let start = passed .before .before .before .before .before .before .before .before in
-    let w = start .args .area .now in
-    let work = length (start .args .work .now) in
-    let l = start .args .path .now in
-    let p = all-passed w work (length l) (start .args .r) (sym (passed .if1 .left) ∙ passed .before .refusal .ensures) in
-    omega (arith, formed-long w (p .formed))
+    let passed = c .before .before .before .before in omega (arith, formed-long (areaAt passed) (past-eight passed .formed))
 
 same-length-3 : tie.Need-same-length-3
 same-length-3 c = search needs
@@ -78,24 +99,14 @@ returns-3 : tie.Need-returns-3
 returns-3 c =
     let numbered = c .before .before in
     let passed = numbered .before .before .before in
-    let start = passed .before .before .before .before .before .before .before .before in
-    let w = start .args .area .now in
-    let work = length (start .args .work .now) in
-    let l = start .args .path .now in
-    let p = all-passed w work (length l) (start .args .r) (sym (passed .if1 .left) ∙ passed .before .refusal .ensures) in
-    refusal-admitted w work l (start .args .circuit) (start .args .r) 12
-    (fails-12 w work (length l) (start .args .circuit) (start .args .r) p
-    (sym (numbered .before .number-fits .ensures) ∙ not-false _ (numbered .if2 .left))
+    refusal-admitted (areaAt passed) (workAt passed) (bufferAt passed) (circuitAt passed) (requestAt passed) 12
+    (fails-12 _ _ _ _ _ (past-eight passed) (sym (numbered .before .number-fits .ensures) ∙ not-false _ (numbered .if2 .left))
     (c .if3 .taken))
 
 seek-requires : tie.Need-seek-requires
 seek-requires c κs =
     let passed = c .before .before .before .before .before .before .before .before .before .before in
-    let start = passed .before .before .before .before .before .before .before .before in
-    let w = start .args .area .now in
-    let work = length (start .args .work .now) in
-    let l = start .args .path .now in
-    let p = all-passed w work (length l) (start .args .r) (sym (passed .if1 .left) ∙ passed .before .refusal .ensures) in
+    let p = past-eight passed in
     record {
       formed = p .formed;
       units = passed .before .before .before .check .ensures .1;
@@ -120,19 +131,13 @@ returns-4 : tie.Need-returns-4
 returns-4 c =
     let answered = c .before .before .before .before .before in
     let counted = answered .before .before .before .before .before .before in
-    let numbered = counted .before .before in
-    let passed = numbered .before .before .before in
-    let start = passed .before .before .before .before .before .before .before .before in
-    let w = start .args .area .now in
-    let work = length (start .args .work .now) in
-    let l = start .args .path .now in
-    let p = all-passed w work (length l) (start .args .r) (sym (passed .if1 .left) ∙ passed .before .refusal .ensures) in
-    let new = sym (numbered .before .number-fits .ensures) ∙ not-false _ (numbered .if2 .left) in
-    let is = searches w work (length l) (start .args .circuit) (start .args .r) p new (counted .if3 .left) in
+    let passed = passedAt counted in
+    let w = areaAt passed in
+    let r = requestAt passed in
     let found = answered .seek .ensures in
     let other = other-case (tagOf the-type) (λ g. refl) _ (c .match .keys2) in
-    admitted-as w work l (start .args .circuit) (start .args .r) (sought (booksIn w) (start .args .r)) is _ (found .0) _ (found .1) w
-    (unstored w (start .args .circuit) (start .args .r .units) (sought (booksIn w) (start .args .r)) (λ g e. other g (found .0 ∙ e)))
+    admitted-as w (workAt passed) (bufferAt passed) (circuitAt passed) r (sought (booksIn w) r) (past-twelve counted) _ (found .0) _ (found .1) w
+    (unstored w (circuitAt passed) (r .units) (sought (booksIn w) r) (λ g e. other g (found .0 ∙ e)))
 
 wide-requires : tie.Need-wide-requires
 wide-requires c κs = search needs
@@ -141,13 +146,9 @@ part-requires : tie.Need-part-requires
 part-requires c κs =
     let granted = c .before .before .before .before in
     let answered = granted .before .before .before .before .before .before in
-    let passed = answered .before .before .before .before .before .before .before .before .before .before .before in
-    let start = passed .before .before .before .before .before .before .before .before in
-    let w = start .args .area .now in
-    let work = length (start .args .work .now) in
-    let l = start .args .path .now in
-    let p = all-passed w work (length l) (start .args .r) (sym (passed .if1 .left) ∙ passed .before .refusal .ensures) in
-    let short = granted-short w (start .args .r) (p .formed) (p .request) _ (sym (answered .seek .ensures .0) ∙ granted .answer .given .1) in
+    let passed = passedAt (answered .before .before .before .before .before .before) in
+    let p = past-eight passed in
+    let short = granted-short (areaAt passed) (requestAt passed) (p .formed) (p .request) _ (sym (answered .seek .ensures .0) ∙ granted .answer .given .1) in
     omega (arith, short, c .wide .ensures, p .buffer, answered .seek .kept .1)
 
 add-requires : tie.Need-add-requires
@@ -155,15 +156,11 @@ add-requires c κs =
     let granted = c .before .before .before .before .before in
     let answered = granted .before .before .before .before .before .before in
     let counted = answered .before .before .before .before .before .before in
-    let passed = counted .before .before .before .before .before in
-    let start = passed .before .before .before .before .before .before .before .before in
-    let w = start .args .area .now in
-    let work = length (start .args .work .now) in
-    let l = start .args .path .now in
-    let p = all-passed w work (length l) (start .args .r) (sym (passed .if1 .left) ∙ passed .before .refusal .ensures) in
-    let short = granted-short w (start .args .r) (p .formed) (p .request) _ (sym (answered .seek .ensures .0) ∙ granted .answer .given .1) in
+    let passed = passedAt counted in
+    let p = past-eight passed in
+    let short = granted-short (areaAt passed) (requestAt passed) (p .formed) (p .request) _ (sym (answered .seek .ensures .0) ∙ granted .answer .given .1) in
     let count = part-length (answered .seek .last .1 .1 .1 .0) 0 (c .before .wide .result) (c .part .ensures) in
-    (formed-long w (p .formed), (counted .if3 .left, omega (arith, short, c .before .wide .ensures, count)))
+    (formed-long (areaAt passed) (p .formed), (counted .if3 .left, omega (arith, short, c .before .wide .ensures, count)))
 
 same-length-7 : tie.Need-same-length-7
 same-length-7 c = search needs
@@ -180,23 +177,17 @@ returns-5 c =
     let granted = lent .before .before .before .before .before in
     let answered = granted .before .before .before .before .before .before in
     let counted = answered .before .before .before .before .before .before in
-    let numbered = counted .before .before in
-    let passed = numbered .before .before .before in
-    let start = passed .before .before .before .before .before .before .before .before in
-    let w = start .args .area .now in
-    let work = length (start .args .work .now) in
-    let l = start .args .path .now in
-    let p = all-passed w work (length l) (start .args .r) (sym (passed .if1 .left) ∙ passed .before .refusal .ensures) in
-    let new = sym (numbered .before .number-fits .ensures) ∙ not-false _ (numbered .if2 .left) in
-    let is = searches w work (length l) (start .args .circuit) (start .args .r) p new (counted .if3 .left) in
+    let passed = passedAt counted in
+    let w = areaAt passed in
+    let r = requestAt passed in
     let found = answered .seek .ensures in
     let grant = granted .answer .given .1 in
     let booked-so =
-    stored-as w (start .args .circuit) (start .args .r .units) _ l (sought (booksIn w) (start .args .r)) (sym (found .0) ∙ grant) _ (found .1) _
+    stored-as w (circuitAt passed) (r .units) _ (bufferAt passed) (sought (booksIn w) r) (sym (found .0) ∙ grant) _ (found .1) _
     (lent .before .wide .ensures)
     _
     (lent .part .ensures) in
-    admitted-as w work l (start .args .circuit) (start .args .r) (sought (booksIn w) (start .args .r)) is _ (sym grant ∙ found .0) _ (found .1) _
+    admitted-as w (workAt passed) (bufferAt passed) (circuitAt passed) r (sought (booksIn w) r) (past-twelve counted) _ (sym grant ∙ found .0) _ (found .1) _
     (c .before .before .add .ensures ∙ booked-so)
 
 pub admit-spec : {M : Type 1} → statement M

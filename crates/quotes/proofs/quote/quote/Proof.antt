@@ -1,16 +1,32 @@
 -- `quotes::quote::quote` meets its contract: the first check that fails gives the number, and past them the search replies.
 -- Assumes nothing.
+use Prim.Native.Nat.{ℕ}
 use mathlib.Core.Path.{sym, _∙_}
+use mathlib.Core.List.{List}
 use borrow.Author.Needs.{needs}
 use lib.ListN.{length}
 use Rattle.rules.specs.Calls.{booksIn, sought}
-use Rattle.rules.proofs.CallCases.{all-passed, quote-refused, quote-passed}
+use Rattle.rules.proofs.CallCases.{Passed, all-passed, quote-refused, quote-passed}
 use Rattle.rules.proofs.Granting.{quoted-as, refusal-quoted}
 use Rattle.quotes.proofs.quote.quote.Statement.{statement}
 use Rattle.quotes.proofs.quote.quote.Tie as tie
 
--- The steps that the facts are taken from, each seen from the one after it: `passed` is past 5 to 8, `answered` has the
--- search's answer.
+-- What a step has shown is taken from that step: `passed` is past 5 to 8, `answered` has the search's answer.
+abbrev startOf : tie.Else1 → tie.Start
+startOf passed = passed .before .before .before .before .before .before
+
+abbrev areaAt : tie.Else1 → List ℕ
+areaAt passed = startOf passed .args .area .now
+
+abbrev workAt : tie.Else1 → ℕ
+workAt passed = length (startOf passed .args .work .now)
+
+abbrev bufferAt : tie.Else1 → List ℕ
+bufferAt passed = startOf passed .args .path .now
+
+-- past 5 to 8, the search may be asked
+past-eight : (passed : tie.Else1) → Passed (areaAt passed) (workAt passed) (length (bufferAt passed)) (startOf passed .args .r)
+past-eight passed = all-passed _ _ _ _ (sym (passed .if1 .left) ∙ passed .before .refusal .ensures)
 
 check-requires : tie.Need-check-requires
 check-requires c κs = search needs
@@ -29,11 +45,7 @@ returns c =
 seek-requires : tie.Need-seek-requires
 seek-requires c κs =
     let passed = c .before .before .before .before in
-    let start = passed .before .before .before .before .before .before in
-    let w = start .args .area .now in
-    let work = length (start .args .work .now) in
-    let l = start .args .path .now in
-    let p = all-passed w work (length l) (start .args .r) (sym (passed .if1 .left) ∙ passed .before .refusal .ensures) in
+    let p = past-eight passed in
     record {
       formed = p .formed;
       units = passed .before .before .check .ensures .1;
@@ -52,14 +64,10 @@ returns-2 : tie.Need-returns-2
 returns-2 c =
     let answered = c .before .before .before .before in
     let passed = answered .before .before .before .before .before in
-    let start = passed .before .before .before .before .before .before in
-    let w = start .args .area .now in
-    let work = length (start .args .work .now) in
-    let l = start .args .path .now in
-    let p = all-passed w work (length l) (start .args .r) (sym (passed .if1 .left) ∙ passed .before .refusal .ensures) in
+    let r = startOf passed .args .r in
     let found = answered .seek .ensures in
-    quoted-as w work l (start .args .r) (sought (booksIn w) (start .args .r)) (quote-passed w work (length l) (start .args .r) p) _ (found .0) _
-    (found .1)
+    quoted-as (areaAt passed) (workAt passed) (bufferAt passed) r (sought (booksIn (areaAt passed)) r) (quote-passed _ _ _ _ (past-eight passed)) _
+    (found .0) _ (found .1)
 
 pub quote-spec : {M : Type 1} → statement M
 quote-spec =
