@@ -5,12 +5,12 @@ use Prim.Native.Nat.{ℕ}
 use mathlib.Core.List.{List, [], _∷_, _++_}
 use lib.ListN.{take}
 use Rattle.network.specs.declared.Grant.{Grant}
-use Rattle.loading.specs.declared.Loading.{Loading}
-use Rattle.loading.specs.declared.Loading.the-variants as loading
+use Rattle.area.specs.declared.Loading.{Loading}
+use Rattle.area.specs.declared.Loading.the-variants as loading
 use Rattle.rules.specs.declared.Answer.{Answer}
 use Rattle.rules.specs.declared.Answer.the-variants as answer
-use Rattle.station.specs.declared.Reading.{Reading}
-use Rattle.station.specs.declared.Reading.the-variants as reading
+use Rattle.area.specs.declared.Reading.{Reading}
+use Rattle.area.specs.declared.Reading.the-variants as reading
 use Rattle.text_format.specs.Fields.{fields}
 
 -- a field for each of these numbers, and the newline

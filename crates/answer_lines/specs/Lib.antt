@@ -1,1 +1,2 @@
+-- The text of an answer.
 pub mod Answers

@@ -6,11 +6,11 @@ ghost use Prim.Native.Nat.{_+_, _*_, _≤_};
 ghost use lib.ListN.{length, take};
 ghost use lib.Seq.{sets};
 ghost use Rattle.answer_lines.specs.Answers.{lineText, refusedText, pathText, grantText, answerText, readingText, loadingText};
+use area::Loading;
+use area::Reading;
 use links::link;
-use loading::Loading;
 use network::Grant;
 use rules::Answer;
-use station::Reading;
 
 // A field for each of these numbers, and the newline.
 fn put_line(text: &mut [u8], at: usize, numbers: &[u32]) -> usize

@@ -1,9 +1,9 @@
-pub mod Each
+mod Each
 pub mod WordsAt
 pub mod Found
-pub mod PathTest
+mod PathTest
 pub mod Formed
-pub mod StationWords
+mod StationWords
 pub mod Added
 pub mod Removed
 pub mod FreeUnits
@@ -11,3 +11,13 @@ pub mod Keeps
 pub mod Order
 pub mod Stores
 pub mod Checks
+pub mod ReadCases
+pub mod Depends
+pub mod LinkTest
+pub mod Onward
+pub mod CircuitCases
+pub mod Taken
+pub mod CircuitUnits
+pub mod CheckCases
+pub mod Loads
+pub mod LoadCases

@@ -1,7 +1,15 @@
+-- The files of the area's definitions, in reading order: what its words say and what the calls ask of it (Station to Order),
+-- what Load and the calls that only read answer, what a store moves, and what the functions of `station` rely on.
 pub mod Station
 pub mod Books
-pub mod Held
 pub mod Formed
-pub mod Moves
 pub mod Order
 pub mod Checks
+pub mod Load
+pub mod Held
+pub mod Reads
+pub mod Moves
+pub mod Units
+pub mod FreeIn
+pub mod Usable
+pub mod Ready

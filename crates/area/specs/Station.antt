@@ -1,5 +1,5 @@
 -- What the words of an area say: the table that loading fixed, and the held circuits. This file reads document 01's
--- layout, Moves.antt and Load.antt of `loading` write it, and everything else speaks of a `Station`.
+-- layout, Moves.antt and Load.antt write it, and everything else speaks of a `Station`.
 -- Assumes nothing.
 use Prim.Native.Nat.{ℕ, zero, suc, _+_, _*_}
 use mathlib.Core.List.{List, [], _∷_}

@@ -4,16 +4,16 @@ ghost use lib.ListN.{length};
 ghost use Rattle.rules.specs.Replies.{answerOf, pathAfter};
 ghost use Rattle.rules.specs.Calls.{admission, booked, release, cleared};
 ghost use Rattle.rules.specs.Meaning.{Admitted, Cleared};
-use area_check::check::check;
-use area_words::layout;
-use circuit_store::held::find;
-use circuit_store::store;
+use crate::checks::refusal;
+use crate::request::number_fits;
+use crate::seek::seek;
 use links::link;
 use network::Request;
-use request_checks::checks::refusal;
-use request_checks::request::number_fits;
 use rules::Answer;
-use seek::seek::seek;
+use station::check::check;
+use station::held::find;
+use station::layout;
+use station::store;
 
 // The most circuits that may be held.
 const CIRCUITS: u32 = 64;

@@ -1,6 +1,10 @@
-// The calls of document 01 that change the bookings: admission and release. This is the upper crate: it uses the route
-// search by its stated result alone and reads none of its tables. Quote, which books nothing, is in `quotes`.
+// Quote, admission and release, the calls of document 01 that search or change the bookings. This is the upper crate: it
+// uses the route search by its stated result alone (`seek` makes the one call) and reads none of its tables.
 //
 // The calls take anything: any words, any lengths, any numbers. Each checks in document 01's order and refuses by the
 // first number that applies; a refusal changes nothing but work memory, which is open after any call that takes it.
 pub mod calls;
+mod checks;
+pub mod quote;
+mod request;
+mod seek;

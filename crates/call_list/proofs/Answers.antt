@@ -11,20 +11,20 @@ use Rattle.network.specs.Loops.{iter, first}
 use Rattle.network.specs.Scale.{scaled}
 use Rattle.network.specs.Cut.{noted, follow}
 use Rattle.network.specs.Reduce.{problemOne, problemTwo}
-use Rattle.ebf.specs.Table.{cell, cells, filled, initialised, improved, relaxed, offered, column, round, rounds, ebf}
-use Rattle.ebf.specs.Trace.{trailBack, stepBack, traced}
-use Rattle.ebf.specs.Solve.{pathIn, answerIn, solveIn, solve}
-use Rattle.ebf.specs.Distance.{spread, layer, distance}
-use Rattle.ebf.specs.Search.{tried, search}
+use Rattle.search.specs.ebf.Table.{cell, cells, filled, initialised, improved, relaxed, offered, column, round, rounds, ebf}
+use Rattle.search.specs.ebf.Trace.{trailBack, stepBack, traced}
+use Rattle.search.specs.ebf.Solve.{pathIn, answerIn, solveIn, solve}
+use Rattle.search.specs.Distance.{spread, layer, distance}
+use Rattle.search.specs.Heuristic.{tried, search}
 use Rattle.area.specs.Station.{tableIn, circuitOf}
 use Rattle.area.specs.Order.{Same, next}
-use Rattle.loading.specs.declared.Loading.the-variants.{Loaded}
-use Rattle.loading.specs.Load.{loadAnswer, areaLoaded}
+use Rattle.area.specs.declared.Loading.the-variants.{Loaded}
+use Rattle.area.specs.Load.{loadAnswer, areaLoaded}
 use Rattle.rules.specs.Calls.{quote, admission, booked, release, cleared}
 use Rattle.ledger.specs.History.{answers, given, bookings, remaining}
 use Rattle.ledger.proofs.Striking.{none-struck, all-remain}
 use Rattle.ledger.proofs.Demands.{third-demand}
-use Rattle.cases.specs.Cases.{linksA, blank}
+use Rattle.cases.specs.Document01.{linksA, blank}
 use Rattle.call_list.specs.Calls.{rows, calls}
 use Rattle.call_list.specs.Answers.{expected, held}
 use Rattle.call_list.proofs.Runs.{load-accepts, struck-calls, endOf, runs-agree}

@@ -1,4 +1,4 @@
--- What a call of the list leaves, one law for each return of the functions of `call_runs` that make it.
+-- What a call of the list leaves, one law for each return of the functions of `history` that make it.
 -- Assumes nothing.
 use Prim.Native.Nat.{ℕ, suc, _+_, _-_, _≤_, _<_}
 use mathlib.Core.Path.{_≡_, refl, sym, ap, _∙_}

@@ -11,13 +11,13 @@ use lib.ListN.{length, getD, take, replicate, length-take, length-replicate}
 use Rattle.network.proofs.Tests.{by-bool}
 use Rattle.area.specs.Formed.{linksFit}
 use Rattle.area.specs.Order.{Same}
-use Rattle.loading.specs.declared.Loading.the-variants.{Loaded}
-use Rattle.loading.specs.Load.{loadAnswer, areaLoaded}
-use Rattle.loading.proofs.LoadCases.{all-pass}
-use Rattle.ledger.specs.Ledger.{quoting, admitting, releasing}
+use Rattle.area.specs.declared.Loading.the-variants.{Loaded}
+use Rattle.area.specs.Load.{loadAnswer, areaLoaded}
+use Rattle.area.proofs.LoadCases.{all-pass}
+use Rattle.ledger.specs.Entries.{quoting, admitting, releasing}
 use Rattle.ledger.specs.History.{Lending, measured, answers, areaAtEnd, bookings, Struck, end, strike, keep, remaining}
 use Rattle.ledger.proofs.Demands.{third-demand}
-use Rattle.cases.specs.Cases.{linksA}
+use Rattle.cases.specs.Document01.{linksA}
 use Rattle.call_list.specs.Calls.{rows, kindOf, isQuote, requestOf, callOf, workLent, pathLent, workFiller, pathFiller, workWords, pathWords, lent, callsFrom, calls}
 
 -- ---- a row's call

@@ -6,7 +6,7 @@ use lib.ListN.{length}
 use Rattle.area.specs.Station.{Circuit}
 use Rattle.rules.specs.declared.Answer.the-variants.{Refused, Granted, Released}
 use Rattle.ledger.specs.History.{Given}
-use Rattle.cases.specs.Cases.{three}
+use Rattle.cases.specs.Document01.{three}
 
 abbrev refused : ℕ → Given
 refused k = record { numbers = Refused k; words = [] }

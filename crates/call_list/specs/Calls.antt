@@ -1,5 +1,5 @@
--- The list of calls that the program `history` makes, as a history of the crate `ledger`: each row of the table in
--- `call_runs` is a call, with the words that it is lent in the first run or in the second, where the quotes are struck.
+-- The list of calls that the program `history` makes, as a history of the room `ledger`: each row of the table in
+-- `history` is a call, with the words that it is lent in the first run or in the second, where the quotes are struck.
 -- Assumes nothing.
 use Prim.Native.Nat.{ℕ, zero, suc, _-_}
 use mathlib.Core.Bool.{Bool, cond, _&&_, _||_}
@@ -7,7 +7,7 @@ use mathlib.Core.List.{List, [], _∷_, _++_}
 use lib.Dec.{eqb}
 use lib.ListN.{getD, take, replicate}
 use Rattle.network.specs.declared.Request.{Request}
-use Rattle.ledger.specs.Ledger.{Call, quoting, admitting, releasing}
+use Rattle.ledger.specs.Entries.{Call, quoting, admitting, releasing}
 use Rattle.ledger.specs.History.{Lending}
 
 -- ---- the rows

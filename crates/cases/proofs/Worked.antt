@@ -15,18 +15,18 @@ use Rattle.network.specs.Problem.{Distance}
 use Rattle.network.specs.Cut.{noted, follow}
 use Rattle.network.specs.Reduce.{problemOne, problemTwo}
 use Rattle.network.proofs.Paths.{path-of}
-use Rattle.ebf.specs.Table.{cell, cells, filled, initialised, improved, relaxed, offered, column, round, rounds, ebf}
-use Rattle.ebf.specs.Trace.{trailBack, stepBack, traced}
-use Rattle.ebf.specs.Solve.{pathIn, answerIn, solveIn, solve}
-use Rattle.ebf.specs.Distance.{spread, layer, distance}
-use Rattle.ebf.specs.Search.{tried, search}
+use Rattle.search.specs.ebf.Table.{cell, cells, filled, initialised, improved, relaxed, offered, column, round, rounds, ebf}
+use Rattle.search.specs.ebf.Trace.{trailBack, stepBack, traced}
+use Rattle.search.specs.ebf.Solve.{pathIn, answerIn, solveIn, solve}
+use Rattle.search.specs.Distance.{spread, layer, distance}
+use Rattle.search.specs.Heuristic.{tried, search}
 use Rattle.area.specs.Station.{tableIn, circuitOf, station}
 use Rattle.area.specs.Books.{books, net}
-use Rattle.loading.specs.Load.{loadAnswer}
+use Rattle.area.specs.Load.{loadAnswer}
 use Rattle.rules.specs.Replies.{Reply}
 use Rattle.rules.specs.Calls.{quote, admission}
 use Rattle.rules.specs.Meaning.{netFor}
-use Rattle.cases.specs.Cases.{netA, netB, AreasLoaded, m2, m3, m11, Asked, quoting, admitting, Case, cases, Holds, CaseHolds, Margins}
+use Rattle.cases.specs.Document01.{netA, netB, AreasLoaded, m2, m3, m11, Asked, quoting, admitting, Case, cases, Holds, CaseHolds, Margins}
 use Rattle.rules.proofs.Meaning.{quote-means, admission-means}
 
 -- ---- the cases

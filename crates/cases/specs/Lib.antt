@@ -1,1 +1,2 @@
-pub mod Cases
+-- Document 01's worked cases.
+pub mod Document01

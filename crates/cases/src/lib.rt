@@ -1,4 +1,4 @@
-// Document 01's worked cases (specs/Cases.antt) and the proof that they hold (proofs/Worked.antt), and the link words of
+// Document 01's worked cases (specs/Document01.antt) and the proof that they hold (proofs/Worked.antt), and the link words of
 // its two nets for programs that load them. There is no function here.
 
 // From, to, delay, cost and capacity of each link of net A.

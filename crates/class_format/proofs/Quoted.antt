@@ -11,12 +11,12 @@ use Rattle.network.specs.declared.Grant.{Grant}
 use Rattle.network.specs.Net.{Net}
 use Rattle.network.specs.Reduce.{Outcome, no-path, no-solution, granted}
 use Rattle.network.specs.declared.Request.{Request}
-use Rattle.ebf.specs.Search.{search as find}
+use Rattle.search.specs.Heuristic.{search as find}
 use Rattle.area.specs.Books.{Books, net}
 use Rattle.area.proofs.Checks.{all-pass}
-use Rattle.classes.specs.declared.Service.{Service}
-use Rattle.classes.specs.declared.Answer.the-variants as asked
-use Rattle.classes.specs.Classes.{classAnswer}
+use Rattle.rules.specs.declared.Service.{Service}
+use Rattle.rules.specs.declared.ClassAnswer.the-variants as asked
+use Rattle.rules.specs.Classes.{classAnswer}
 use Rattle.rules.specs.declared.Answer.the-variants.{Refused, Granted, Released}
 use Rattle.rules.specs.Replies.{Reply, refuses, grants, releases, answerOf, replyOf, pathAfter}
 use Rattle.rules.specs.Calls.{booksIn, quoteChecks, sought, quote}

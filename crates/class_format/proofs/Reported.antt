@@ -9,9 +9,9 @@ use lib.ListN.{length, take, drop, length-append}
 use lib.Seq.{sets, take-at, length-take-le}
 use Rattle.io.specs.Counts.{Counts}
 use Rattle.area.specs.Station.{Station}
-use Rattle.loading.specs.declared.Loading.the-variants as loading
-use Rattle.loading.specs.Load.{loadAnswer, areaLoaded}
-use Rattle.loading.proofs.Loads.{accepted-station, accepted-formed}
+use Rattle.area.specs.declared.Loading.the-variants as loading
+use Rattle.area.specs.Load.{loadAnswer, areaLoaded}
+use Rattle.area.proofs.Loads.{accepted-station, accepted-formed}
 use Rattle.link_format.specs.declared.Size.{Size}
 use Rattle.link_format.specs.declared.Reading.the-variants as reading
 use Rattle.link_format.specs.Reading.{readAnswer, recordWords, tableRead, linksIn}

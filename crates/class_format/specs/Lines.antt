@@ -3,10 +3,10 @@
 use Prim.Native.Nat.{ℕ, zero, suc, _-_}
 use mathlib.Core.List.{List, [], _∷_, _++_}
 use Rattle.network.specs.declared.Request.{Request}
-use Rattle.classes.specs.declared.Service.{Service}
-use Rattle.classes.specs.declared.Answer.{Answer}
-use Rattle.classes.specs.declared.Answer.the-variants.{Refused, Row}
-use Rattle.classes.specs.Classes.{classAnswer}
+use Rattle.rules.specs.declared.Service.{Service}
+use Rattle.rules.specs.declared.ClassAnswer.{ClassAnswer}
+use Rattle.rules.specs.declared.ClassAnswer.the-variants.{Refused, Row}
+use Rattle.rules.specs.Classes.{classAnswer}
 use Rattle.rules.specs.Replies.{Reply, refuses, grants, releases}
 use Rattle.rules.specs.Calls.{quote}
 use Rattle.text_format.specs.Decimal.{decimal}
@@ -36,7 +36,7 @@ unfolding replyLine quote requestOf
 quoteLine area n k s = replyLine k (quote area 16384 31 (requestOf n s))
 
 -- the line of class k by what the class call answers
-unfoldable pub answeredLine : List ℕ → ℕ → ℕ → Answer → List ℕ
+unfoldable pub answeredLine : List ℕ → ℕ → ℕ → ClassAnswer → List ℕ
 unfolding replyLine quoteLine
 answeredLine area n k (Refused number) = replyLine k (refuses number)
 answeredLine area n k (Row s) = quoteLine area n k s

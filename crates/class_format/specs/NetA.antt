@@ -4,7 +4,7 @@
 use Prim.Native.Nat.{ℕ}
 use mathlib.Core.List.{List, [], _∷_, _++_}
 use Rattle.link_format.specs.Format.{bytesOfAll, trailer}
-use Rattle.cases.specs.Cases.{linksA}
+use Rattle.cases.specs.Document01.{linksA}
 
 -- ---- the file: four links, no notes
 -- with so many nodes

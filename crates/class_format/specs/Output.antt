@@ -5,9 +5,9 @@ use mathlib.Core.Bool.{cond}
 use mathlib.Core.List.{List, [], _∷_, _++_}
 use lib.Dec.{leb}
 use lib.ListN.{length, replicate}
-use Rattle.loading.specs.declared.Loading.{Loading}
-use Rattle.loading.specs.declared.Loading.the-variants as loading
-use Rattle.loading.specs.Load.{loadAnswer, areaLoaded}
+use Rattle.area.specs.declared.Loading.{Loading}
+use Rattle.area.specs.declared.Loading.the-variants as loading
+use Rattle.area.specs.Load.{loadAnswer, areaLoaded}
 use Rattle.link_format.specs.declared.Reading.{Reading}
 use Rattle.link_format.specs.declared.Reading.the-variants as reading
 use Rattle.link_format.specs.Reading.{readAnswer, recordWords}

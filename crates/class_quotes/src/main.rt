@@ -1,5 +1,7 @@
 // The class program of document 01: reads a link file on standard input, loads a fresh area and quotes each class from
 // node 0 to n - 1. It prints a line for each class, or that the file or the load was refused.
+// All of it is put into bytes by `report`, with the lines of the classes from `lines`; here it is only read and written.
+mod lines;
 mod report;
 
 use libc::STDIN_FILENO;

@@ -5,11 +5,11 @@ ghost use lib.ListN.{length};
 ghost use lib.Seq.{sets};
 ghost use Rattle.io.specs.Counts.{Counts};
 ghost use Rattle.class_format.specs.Output.{refusal, loadOutput, fileOutput, output};
-use class_lines::put_lines;
+use crate::lines::put_lines;
+use area::Loading;
 use link_format::Reading;
 use links::link;
-use loading::Loading;
-use loading::load::load;
+use station::load::load;
 
 // A word and a refusal's number.
 fn put_refusal(text: &mut [u8; 4096], word: &[u8; 4], k: u32) -> usize

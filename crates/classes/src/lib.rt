@@ -1,20 +1,8 @@
 // The service classes of document 01: what each kind of job asks for. The class program and the C interface call it.
 ghost use mathlib.Core.Path.{_≡_};
-ghost use Rattle.classes.specs.Classes.{classAnswer};
-
-// What a class asks for: its units, its bounds D and C, and its coefficient.
-pub struct Service {
-    pub units: u32,
-    pub delay_bound: u32,
-    pub cost_bound: u32,
-    pub coefficient: u32,
-}
-
-// What the class call answers: document 01's number, or the class's row.
-pub enum Answer {
-    Refused(u32),
-    Row(Service),
-}
+ghost use Rattle.rules.specs.Classes.{classAnswer};
+use rules::ClassAnswer;
+use rules::Service;
 
 // Card, PIN, tank, prices, service, pictures.
 const ROWS: [[u32; 4]; 6] = [
@@ -27,14 +15,14 @@ const ROWS: [[u32; 4]; 6] = [
 ];
 
 // 16 if the class is over 5; else its row.
-pub fn class(k: u32) -> Answer
+pub fn class(k: u32) -> ClassAnswer
     ensures { λ a. ⌜ a ≡ classAnswer k ⌝ }
 {
     if 5 < k {
-        return Answer::Refused(16);
+        return ClassAnswer::Refused(16);
     }
     let row = ROWS[k as usize];
-    Answer::Row(Service {
+    ClassAnswer::Row(Service {
         units: row[0],
         delay_bound: row[1],
         cost_bound: row[2],

@@ -1,9 +1,9 @@
 // The bookings and the free units at the end of a run, printed.
 ghost use Prim.Native.Nat.{_<_, _≤_};
 use crate::output;
-use area_words::layout;
 use libc::STDOUT_FILENO;
 use links::link;
+use station::layout;
 use station::reads;
 
 // The circuit at word `at`: its number, its units and its path. The last place of an area begins at word 3425.

@@ -12,20 +12,22 @@
 ghost use mathlib.Core.Path.{_≡_};
 ghost use mathlib.Core.Bool.{true, false};
 ghost use Rattle.area.specs.Order.{Same};
-ghost use Rattle.loading.specs.declared.Loading.the-variants.{Loaded};
-ghost use Rattle.loading.specs.Load.{loadAnswer, areaLoaded};
+ghost use Rattle.area.specs.declared.Loading.the-variants.{Loaded};
+ghost use Rattle.area.specs.Load.{loadAnswer, areaLoaded};
 ghost use Rattle.ledger.specs.History.{areaAtEnd, bookings};
-ghost use Rattle.cases.specs.Cases.{linksA};
+ghost use Rattle.cases.specs.Document01.{linksA};
 ghost use Rattle.call_list.specs.Calls.{calls};
 
 mod bookings;
+mod kinds;
+mod list;
 mod output;
 
-use call_runs::list::every_call;
+use crate::list::every_call;
+use area::Loading;
 use cases::NET_A;
 use libc::STDOUT_FILENO;
-use loading::Loading;
-use loading::load::load;
+use station::load::load;
 
 fn write_loading(loading: Loading) {
     let mut text = [0u8; 13];

@@ -1,4 +1,4 @@
-// Standard output.
+// Bytes to standard output: what no contract can say stands here alone.
 ghost use Prim.Native.Nat.{_≤_};
 ghost use lib.ListN.{length};
 use libc::STDOUT_FILENO;

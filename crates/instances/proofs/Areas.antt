@@ -15,8 +15,8 @@ use Rattle.area.specs.Held.{ListsHeld}
 use Rattle.area.proofs.Formed.{formed-says, unformed}
 use Rattle.area.proofs.Added.{added-untouched}
 use Rattle.area.proofs.Order.{usage-same, holds-same, count-same}
-use Rattle.loading.specs.Load.{tableOf, fresh, loaded}
-use Rattle.cases.specs.Cases.{linksA, linksB, three}
+use Rattle.area.specs.Load.{tableOf, fresh, loaded}
+use Rattle.cases.specs.Document01.{linksA, linksB, three}
 use Rattle.instances.specs.Nets.{straight}
 use Rattle.instances.specs.Areas.{freshA, freshB, circuit, heldA, twoA}
 

@@ -1,8 +1,8 @@
 -- The class call: a row, and refusal 16.
 -- Assumes nothing.
 use mathlib.Core.Path.{_≡_, refl}
-use Rattle.classes.specs.declared.Answer.the-variants.{Refused, Row}
-use Rattle.classes.specs.Classes.{asks, classAnswer}
+use Rattle.rules.specs.declared.ClassAnswer.the-variants.{Refused, Row}
+use Rattle.rules.specs.Classes.{asks, classAnswer}
 
 -- pictures is the last class
 pub pictures : classAnswer 5 ≡ Row (asks 16 3000 600 2)

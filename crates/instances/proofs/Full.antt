@@ -16,22 +16,22 @@ use Rattle.network.specs.Scale.{scaled}
 use Rattle.network.specs.Cut.{noted, follow}
 use Rattle.network.specs.Reduce.{problemOne, problemTwo, granted}
 use Rattle.network.specs.declared.Request.{Request}
-use Rattle.ebf.specs.Alike.{Alike}
-use Rattle.ebf.specs.Table.{cell, cells, filled as filledCells, initialised, improved, relaxed, offered, column, round, rounds, ebf}
-use Rattle.ebf.specs.Trace.{trailBack, stepBack, traced}
-use Rattle.ebf.specs.Solve.{pathIn, answerIn, solveIn, solve}
-use Rattle.ebf.specs.Distance.{spread, layer, distance}
-use Rattle.ebf.specs.Search.{tried, search}
+use Rattle.search.specs.Alike.{Alike}
+use Rattle.search.specs.ebf.Table.{cell, cells, filled as filledCells, initialised, improved, relaxed, offered, column, round, rounds, ebf}
+use Rattle.search.specs.ebf.Trace.{trailBack, stepBack, traced}
+use Rattle.search.specs.ebf.Solve.{pathIn, answerIn, solveIn, solve}
+use Rattle.search.specs.Distance.{spread, layer, distance}
+use Rattle.search.specs.Heuristic.{tried, search}
 use Rattle.area.specs.Station.{Station, tableIn, station}
 use Rattle.area.specs.Books.{usage, holds, books, net}
 use Rattle.area.specs.Formed.{WellFormed}
 use Rattle.area.specs.Moves.{withCircuit}
 use Rattle.area.proofs.Formed.{both, range-test, formed-test}
 use Rattle.area.proofs.Added.{added-station}
-use Rattle.loading.specs.declared.Loading.the-variants.{Loaded}
-use Rattle.loading.specs.Load.{tableOf, loadAnswer, areaLoaded}
-use Rattle.loading.proofs.Loads.{accepted-station, accepted-formed}
-use Rattle.station.proofs.ReadCases.{links-few}
+use Rattle.area.specs.declared.Loading.the-variants.{Loaded}
+use Rattle.area.specs.Load.{tableOf, loadAnswer, areaLoaded}
+use Rattle.area.proofs.Loads.{accepted-station, accepted-formed}
+use Rattle.area.proofs.ReadCases.{links-few}
 use Rattle.rules.specs.Requests.{requestFits}
 use Rattle.rules.specs.Replies.{Reply, refuses, grants, replyOf}
 use Rattle.rules.specs.Calls.{booksIn, numberFits, sought, admission, booked}
@@ -39,9 +39,9 @@ use Rattle.rules.proofs.Facts.{count-is}
 use Rattle.rules.proofs.Bookings.{admitted-formed}
 use Rattle.rules.proofs.Depends.{choice-depends}
 use Rattle.rules.proofs.CallCases.{Passed, fails-12, searches}
-use Rattle.ledger.specs.Ledger.{admitting}
+use Rattle.ledger.specs.Entries.{admitting}
 use Rattle.ledger.specs.History.{Lending, Event, history, replyTo, areaAfter, areaAtEnd}
-use Rattle.cases.specs.Cases.{blank, between}
+use Rattle.cases.specs.Document01.{blank, between}
 use Rattle.instances.specs.Areas.{circuit, oneLink, circuitsTo, filled}
 
 -- one unit over the only link

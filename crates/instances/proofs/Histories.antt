@@ -11,21 +11,21 @@ use Rattle.network.specs.Loops.{iter, first}
 use Rattle.network.specs.Scale.{scaled}
 use Rattle.network.specs.Cut.{noted, follow}
 use Rattle.network.specs.Reduce.{problemOne, problemTwo}
-use Rattle.ebf.specs.Table.{cell, cells, filled, initialised, improved, relaxed, offered, column, round, rounds, ebf}
-use Rattle.ebf.specs.Trace.{trailBack, stepBack, traced}
-use Rattle.ebf.specs.Solve.{pathIn, answerIn, solveIn, solve}
-use Rattle.ebf.specs.Distance.{spread, layer, distance}
-use Rattle.ebf.specs.Search.{tried, search}
+use Rattle.search.specs.ebf.Table.{cell, cells, filled, initialised, improved, relaxed, offered, column, round, rounds, ebf}
+use Rattle.search.specs.ebf.Trace.{trailBack, stepBack, traced}
+use Rattle.search.specs.ebf.Solve.{pathIn, answerIn, solveIn, solve}
+use Rattle.search.specs.Distance.{spread, layer, distance}
+use Rattle.search.specs.Heuristic.{tried, search}
 use Rattle.area.specs.Station.{tableIn, circuitOf}
 use Rattle.area.specs.Order.{Same}
-use Rattle.loading.specs.declared.Loading.the-variants.{Loaded}
-use Rattle.loading.specs.Load.{loadAnswer, areaLoaded}
+use Rattle.area.specs.declared.Loading.the-variants.{Loaded}
+use Rattle.area.specs.Load.{loadAnswer, areaLoaded}
 use Rattle.rules.specs.Calls.{quote, admission, booked, release, cleared}
-use Rattle.ledger.specs.Ledger.{admitting, releasing}
+use Rattle.ledger.specs.Entries.{admitting, releasing}
 use Rattle.ledger.specs.History.{Lending, Event, history, answers, areaAtEnd, bookings, Struck, end, strike, keep, remaining}
 use Rattle.ledger.specs.Demand.{ThirdDemand}
 use Rattle.ledger.proofs.Demands.{third-demand}
-use Rattle.cases.specs.Cases.{blank, linksA, m3, three}
+use Rattle.cases.specs.Document01.{blank, linksA, m3, three}
 use Rattle.instances.specs.Areas.{circuit}
 use Rattle.instances.specs.Calls.{work, room, calls, replies, unquoted}
 

@@ -10,7 +10,7 @@ use Rattle.network.specs.Net.{Net, Walk, IsPath, isPathb}
 use Rattle.network.specs.Problem.{NoPath, Distance}
 use Rattle.network.specs.Words.{netOf}
 use Rattle.network.proofs.Paths.{walk-of, path-of, path-test}
-use Rattle.cases.specs.Cases.{three}
+use Rattle.cases.specs.Document01.{three}
 use Rattle.instances.specs.Nets.{netA, netB, shutA, straight}
 
 -- a list whose test fails is no path

@@ -9,11 +9,11 @@ use lib.ListN.{getD, length-replicate, List·getD-eq-default}
 use Rattle.area.specs.Station.{tableIn, circuitOf}
 use Rattle.area.specs.Formed.{heldFit}
 use Rattle.area.proofs.Formed.{formed-test}
-use Rattle.area_fit.specs.Ready.{Held}
-use Rattle.area_check.specs.FreeIn.{freeIn}
+use Rattle.area.specs.Ready.{Held}
+use Rattle.area.specs.FreeIn.{freeIn}
 use Rattle.rules.specs.Requests.{requestFits}
-use Rattle.seek.specs.Ready.{Seekable}
-use Rattle.cases.specs.Cases.{linksA, m3}
+use Rattle.rules.specs.Ready.{Seekable}
+use Rattle.cases.specs.Document01.{linksA, m3}
 use Rattle.instances.specs.Areas.{freshA, heldA}
 use Rattle.instances.specs.Calls.{work, room}
 use Rattle.instances.proofs.Areas.{fresh-formed, held-formed}

@@ -17,14 +17,14 @@ use Rattle.network.specs.Cut.{noted, follow}
 use Rattle.network.specs.Problem.{Problem, Solves, Best, NoSolution}
 use Rattle.network.specs.Reduce.{problemOne, problemTwo, one, two, WithinBounds, Enough, no-path, no-solution, granted, Found}
 use Rattle.network.proofs.Bounds.{one-distance}
-use Rattle.ebf.specs.Table.{cell, cells, filled, initialised, improved, relaxed, offered, column, round, rounds, ebf}
-use Rattle.ebf.specs.Trace.{trailBack, stepBack, traced}
-use Rattle.ebf.specs.Solve.{pathIn, answerIn, solveIn, solve}
-use Rattle.ebf.proofs.Solved.{Solved, solved}
+use Rattle.search.specs.ebf.Table.{cell, cells, filled, initialised, improved, relaxed, offered, column, round, rounds, ebf}
+use Rattle.search.specs.ebf.Trace.{trailBack, stepBack, traced}
+use Rattle.search.specs.ebf.Solve.{pathIn, answerIn, solveIn, solve}
+use Rattle.search.proofs.ebf.Solved.{Solved, solved}
 use Rattle.area.specs.Formed.{LinkFits, linksFit}
 use Rattle.area.proofs.Formed.{links-says}
-use Rattle.loading.specs.Load.{tableOf}
-use Rattle.cases.specs.Cases.{linksA, m2, m3, three}
+use Rattle.area.specs.Load.{tableOf}
+use Rattle.cases.specs.Document01.{linksA, m2, m3, three}
 use Rattle.instances.specs.Nets.{netA, shutA, straight, m1, m4, m6}
 use Rattle.instances.proofs.Paths.{three-path, straight-path, distance-one, shut-no-path}
 

@@ -10,21 +10,21 @@ use native.Mathlib.Omega.{arith}
 use Rattle.network.specs.declared.Request.{Request}
 use Rattle.network.specs.Reduce.{no-solution}
 use Rattle.network.proofs.Bounds.{one-distance, found-enough}
-use Rattle.route.specs.Result.{GrantedByOne, GrantedByTwo}
+use Rattle.search.specs.Result.{GrantedByOne, GrantedByTwo}
 use Rattle.area.specs.Station.{station, tableIn, circuitOf}
 use Rattle.area.specs.Books.{books}
 use Rattle.rules.specs.Requests.{RequestFits, requestFits}
 use Rattle.rules.specs.Replies.{refuses}
-use Rattle.rules.specs.Rules.{NumberFits}
+use Rattle.rules.specs.Allowed.{NumberFits}
 use Rattle.rules.specs.Calls.{booksIn, numberFits}
 use Rattle.rules.specs.Meaning.{netFor}
 use Rattle.rules.proofs.Facts.{granted-not-refused}
 use Rattle.rules.proofs.Meaning.{request-says, number-says}
-use Rattle.ledger.specs.Ledger.{quoting, opened, checks, Refuses}
+use Rattle.ledger.specs.Entries.{quoting, opened, checks, Refuses}
 use Rattle.ledger.specs.Sentences.{Passes, Solvable, Overqualifies}
 use Rattle.ledger.specs.Demand.{ThirdDemand, GrantedPath}
 use Rattle.ledger.proofs.Demands.{third-demand, any-quote}
-use Rattle.cases.specs.Cases.{blank, linksA, between, m3, three}
+use Rattle.cases.specs.Document01.{blank, linksA, between, m3, three}
 use Rattle.instances.specs.Nets.{netA, m1}
 use Rattle.instances.specs.Areas.{freshA, heldA}
 use Rattle.instances.specs.Calls.{work, room}

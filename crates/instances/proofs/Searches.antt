@@ -16,13 +16,13 @@ use Rattle.network.specs.Words.{netOf, LinkWords}
 use Rattle.network.specs.Scale.{scaled}
 use Rattle.network.specs.Problem.{Problem}
 use Rattle.network.specs.Reduce.{problemOne, one}
-use Rattle.ebf.specs.Alike.{Alike}
-use Rattle.ebf.specs.Table.{cell, cells, number, filled, initialised, improved, relaxed, offered, column, round, rounds, ebf}
-use Rattle.ebf.specs.Settled.{SettledColumn}
-use Rattle.route.specs.Ready.{Ready}
-use Rattle.route.specs.Result.{Searchable}
-use Rattle.route.proofs.Result.{ready-searchable}
-use Rattle.cases.specs.Cases.{linksA, between, m3}
+use Rattle.search.specs.Alike.{Alike}
+use Rattle.search.specs.ebf.Table.{cell, cells, number, filled, initialised, improved, relaxed, offered, column, round, rounds, ebf}
+use Rattle.search.specs.ebf.Settled.{SettledColumn}
+use Rattle.search.specs.Ready.{Ready}
+use Rattle.search.specs.Result.{Searchable}
+use Rattle.search.proofs.Result.{ready-searchable}
+use Rattle.cases.specs.Document01.{linksA, between, m3}
 use Rattle.instances.specs.Nets.{netA, shutA}
 use Rattle.instances.proofs.Problems.{links-fit}
 

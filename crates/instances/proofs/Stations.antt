@@ -4,11 +4,11 @@ use mathlib.Core.Path.{_≡_, refl}
 use mathlib.Core.List.{[], _∷_}
 use lib.ListN.{replicate}
 use Rattle.area.specs.Station.{tableIn, circuitOf}
-use Rattle.loading.specs.declared.Loading.the-variants as loading
-use Rattle.station.specs.declared.Reading.the-variants.{Refused, Value}
-use Rattle.loading.specs.Load.{loadAnswer, areaLoaded}
-use Rattle.station.specs.Reads.{listAnswer, listed, freeAnswer}
-use Rattle.cases.specs.Cases.{blank, linksA}
+use Rattle.area.specs.declared.Loading.the-variants as loading
+use Rattle.area.specs.declared.Reading.the-variants.{Refused, Value}
+use Rattle.area.specs.Load.{loadAnswer, areaLoaded}
+use Rattle.area.specs.Reads.{listAnswer, listed, freeAnswer}
+use Rattle.cases.specs.Document01.{blank, linksA}
 use Rattle.instances.specs.Areas.{heldA, twoA}
 
 -- an area that is a word too short, one node and 33, words that are no whole link and words of 257 links, a link to a

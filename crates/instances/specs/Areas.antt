@@ -4,8 +4,8 @@ use Prim.Native.Nat.{ℕ, zero, suc}
 use mathlib.Core.List.{List, [], _∷_}
 use Rattle.area.specs.Station.{Circuit}
 use Rattle.area.specs.Moves.{added}
-use Rattle.loading.specs.Load.{areaLoaded}
-use Rattle.cases.specs.Cases.{linksA, linksB, blank, three}
+use Rattle.area.specs.Load.{areaLoaded}
+use Rattle.cases.specs.Document01.{linksA, linksB, blank, three}
 use Rattle.instances.specs.Nets.{straight}
 
 -- net A and net B loaded

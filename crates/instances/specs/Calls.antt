@@ -6,9 +6,9 @@ use mathlib.Core.List.{List, [], _∷_}
 use lib.ListN.{replicate}
 use Rattle.network.specs.declared.Request.{Request}
 use Rattle.rules.specs.Replies.{Reply, refuses, grants, releases}
-use Rattle.ledger.specs.Ledger.{quoting, admitting, releasing}
+use Rattle.ledger.specs.Entries.{quoting, admitting, releasing}
 use Rattle.ledger.specs.History.{Lending}
-use Rattle.cases.specs.Cases.{between, asks, m3, three}
+use Rattle.cases.specs.Document01.{between, asks, m3, three}
 use Rattle.instances.specs.Nets.{m4}
 
 -- work memory and path buffer of the lengths asked for, filled with a number

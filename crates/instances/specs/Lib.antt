@@ -1,3 +1,4 @@
+-- What the instances are about.
 pub mod Nets
 pub mod Areas
 pub mod Calls

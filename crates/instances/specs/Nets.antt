@@ -7,7 +7,7 @@ use lib.ListN.{replicate}
 use Rattle.network.specs.Net.{Net}
 use Rattle.network.specs.Words.{netOf}
 use Rattle.network.specs.declared.Request.{Request}
-use Rattle.cases.specs.Cases.{linksA, linksB, asks}
+use Rattle.cases.specs.Document01.{linksA, linksB, asks}
 
 -- ---- the networks
 -- every link is usable

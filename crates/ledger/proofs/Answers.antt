@@ -7,8 +7,8 @@ use mathlib.Core.List.{List, [], _∷_, _++_}
 use mathlib.Core.Logic.{inl, inr, _↔_}
 use Rattle.network.specs.Lists.{All}
 use Rattle.rules.specs.Replies.{Reply, refuses}
-use Rattle.rules.specs.Rules.{Rule, Answered}
-use Rattle.ledger.specs.Ledger.{FirstApplies}
+use Rattle.rules.specs.Allowed.{Rule, Answered}
+use Rattle.ledger.specs.Entries.{FirstApplies}
 use Rattle.ledger.specs.Sentences.{IsRefused, Passes}
 
 same-number : (k j : ℕ) → refuses k ≡ refuses j → k ≡ j

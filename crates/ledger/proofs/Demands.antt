@@ -11,14 +11,14 @@ use Rattle.area.specs.Books.{Books}
 use Rattle.area.specs.Formed.{WellFormed}
 use Rattle.area.specs.Order.{Agrees}
 use Rattle.area.proofs.Order.{agrees-eq, agrees-next, agrees-sym}
-use Rattle.loading.specs.declared.Loading.the-variants.{Loaded}
-use Rattle.loading.specs.Load.{loadAnswer, areaLoaded}
-use Rattle.loading.proofs.Loads.{accepted-station, accepted-formed}
+use Rattle.area.specs.declared.Loading.the-variants.{Loaded}
+use Rattle.area.specs.Load.{loadAnswer, areaLoaded}
+use Rattle.area.proofs.Loads.{accepted-station, accepted-formed}
 use Rattle.rules.specs.Replies.{Reply}
 use Rattle.rules.specs.Calls.{quote, admission}
 use Rattle.rules.specs.Meaning.{netFor}
 use Rattle.rules.proofs.Meaning.{quote-means, admission-means}
-use Rattle.ledger.specs.Ledger.{Call, opened}
+use Rattle.ledger.specs.Entries.{Call, opened}
 use Rattle.ledger.specs.History.{Lending, history}
 use Rattle.ledger.specs.Demand.{PathsGranted, Throughout, ThirdDemand, SecondDemand}
 use Rattle.ledger.proofs.Steps.{Says}

@@ -11,7 +11,7 @@ use Rattle.area.specs.Formed.{WellFormed}
 use Rattle.area.specs.Order.{Agrees, skip}
 use Rattle.area.proofs.Order.{agrees-next, agrees-sym, books-agree, without-same}
 use Rattle.rules.specs.Replies.{Reply}
-use Rattle.ledger.specs.Ledger.{Call, quoting, admitting, releasing, told, Ledger, moved}
+use Rattle.ledger.specs.Entries.{Call, quoting, admitting, releasing, told, Ledger, moved}
 use Rattle.ledger.specs.History.{Lending, measured, replyTo, areaAfter, buffer, Event, history, answers, areaAtEnd, atEnd, Struck, end, strike, keep, remaining}
 use Rattle.ledger.specs.Sentences.{AtEvery}
 use Rattle.ledger.proofs.Given.{given-alike}

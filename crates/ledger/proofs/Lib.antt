@@ -1,8 +1,8 @@
-pub mod Answers
-pub mod Searches
-pub mod Steps
-pub mod Places
-pub mod Given
-pub mod Histories
+mod Answers
+mod Searches
+mod Steps
+mod Places
+mod Given
+mod Histories
 pub mod Striking
 pub mod Demands

@@ -13,10 +13,10 @@ use Rattle.area.proofs.Keeps.{unheld-stays}
 use Rattle.rules.specs.Calls.{booksIn}
 use Rattle.rules.specs.Requests.{RequestFits}
 use Rattle.rules.specs.Replies.{Reply, refuses, grants}
-use Rattle.rules.specs.Rules.{Rule, Answered, Grant, requestRules, numberRules, searchRules}
+use Rattle.rules.specs.Allowed.{Rule, Answered, Grant, requestRules, numberRules, searchRules}
 use Rattle.rules.specs.Meaning.{quoteRules, netFor}
 use Rattle.rules.proofs.Facts.{granted-not-refused, released-not-refused}
-use Rattle.ledger.specs.Ledger.{Call, quoting, admitting, releasing, told, Ledger, seen, checks, rules, Refuses, Grants, moved}
+use Rattle.ledger.specs.Entries.{Call, quoting, admitting, releasing, told, Ledger, seen, checks, rules, Refuses, Grants, moved}
 use Rattle.ledger.specs.Sentences.{IsRefused, IsGranted, Passes, Solvable, Overqualifies, OfRequest}
 use Rattle.ledger.specs.Demand.{PathsGranted}
 use Rattle.ledger.proofs.Answers.{past, unrefused, refused-exactly, not-among}

@@ -12,10 +12,10 @@ use Rattle.network.specs.Reduce.{delayBound, costBound, one, two}
 use Rattle.network.specs.declared.Request.{Request}
 use Rattle.network.proofs.Tests.{by-bool}
 use Rattle.network.proofs.Bounds.{x-positive, one-distance, solution-one-within, solution-two-within, overqualified-solves-one, overqualified-solves-two}
-use Rattle.route.specs.Result.{Unsolved}
+use Rattle.search.specs.Result.{Unsolved}
 use Rattle.rules.specs.Requests.{RequestFits, requestFits}
 use Rattle.rules.specs.Replies.{Reply, grants}
-use Rattle.rules.specs.Rules.{Answered, Grant, by-one, by-two, searchRules}
+use Rattle.rules.specs.Allowed.{Answered, Grant, by-one, by-two, searchRules}
 use Rattle.rules.proofs.Facts.{granted-not-refused}
 use Rattle.rules.proofs.Meaning.{request-says, request-test}
 use Rattle.ledger.specs.Sentences.{IsRefused, IsGranted, Solvable, Overqualifies}

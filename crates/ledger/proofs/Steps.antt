@@ -18,12 +18,12 @@ use Rattle.area.proofs.Keeps.{unheld-stays}
 use Rattle.area.proofs.Order.{agrees-refl, agrees-eq, books-agree}
 use Rattle.rules.specs.Replies.{Reply, refuses, grants, releases}
 use Rattle.rules.specs.Calls.{quote, admission, booked, release, cleared, booksIn}
-use Rattle.rules.specs.Rules.{Rule, _when_, Answered}
+use Rattle.rules.specs.Allowed.{Rule, _when_, Answered}
 use Rattle.rules.proofs.Facts.{granted-not-refused, released-not-refused}
 use Rattle.rules.proofs.Meaning.{quote-means, admission-means, release-means}
 use Rattle.rules.proofs.Bookings.{admitted-station, admitted-formed, released-station, released-formed}
 use Rattle.rules.proofs.Depends.{quote-depends, admission-depends, release-depends}
-use Rattle.ledger.specs.Ledger.{Call, quoting, admitting, releasing, told, rules, Grants, moved}
+use Rattle.ledger.specs.Entries.{Call, quoting, admitting, releasing, told, rules, Grants, moved}
 use Rattle.ledger.specs.History.{Lending, measured, replyTo, areaAfter}
 
 -- a reply is what the ledger says of a call: refused by the first rule that applies, else as it grants

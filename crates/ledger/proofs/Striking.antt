@@ -5,7 +5,7 @@ use Prim.Native.Nat.{ℕ}
 use mathlib.Core.Path.{_≡_, refl, ap}
 use mathlib.Core.Bool.{Bool, true, false}
 use mathlib.Core.List.{List, [], _∷_}
-use Rattle.ledger.specs.Ledger.{quoting, admitting, releasing}
+use Rattle.ledger.specs.Entries.{quoting, admitting, releasing}
 use Rattle.ledger.specs.History.{Lending, replyTo, areaAfter, buffer, Given, given, answers, Struck, end, strike, keep, remaining}
 
 -- the calls of a list without the quotes that were chosen, one choice for each call; past the choices all remain

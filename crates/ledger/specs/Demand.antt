@@ -9,13 +9,13 @@ use Rattle.network.specs.Lists.{Distinct}
 use Rattle.network.specs.Net.{Net, Walk, nodesOf, sum}
 use Rattle.network.specs.Reduce.{WithinBounds}
 use Rattle.network.specs.declared.Request.{Request}
-use Rattle.route.specs.Result.{GrantedByOne, GrantedByTwo}
+use Rattle.search.specs.Result.{GrantedByOne, GrantedByTwo}
 use Rattle.area.specs.Books.{Books}
 use Rattle.area.specs.Order.{Same}
-use Rattle.loading.specs.declared.Loading.the-variants.{Loaded}
-use Rattle.loading.specs.Load.{loadAnswer, areaLoaded}
+use Rattle.area.specs.declared.Loading.the-variants.{Loaded}
+use Rattle.area.specs.Load.{loadAnswer, areaLoaded}
 use Rattle.rules.specs.Replies.{Reply, refuses, grants}
-use Rattle.ledger.specs.Ledger.{Call, opened, checks, Refuses, Grants}
+use Rattle.ledger.specs.Entries.{Call, opened, checks, Refuses, Grants}
 use Rattle.ledger.specs.History.{Lending, givenBy, Event, history, answers, areaAtEnd, bookings, atEnd, Struck, remaining}
 use Rattle.ledger.specs.Sentences.{IsRefused, IsGranted, Passes, Solvable, Overqualifies, AtEvery, OfRequest}
 

@@ -11,7 +11,7 @@ use Rattle.rules.specs.declared.Answer.{Answer}
 use Rattle.rules.specs.declared.Answer.the-variants.{Refused, Granted, Released}
 use Rattle.rules.specs.Replies.{Reply, refuses, grants, releases, answerOf, pathAfter}
 use Rattle.rules.specs.Calls.{quote, admission, booked, release, cleared}
-use Rattle.ledger.specs.Ledger.{Call, quoting, admitting, releasing, told, Ledger, moved}
+use Rattle.ledger.specs.Entries.{Call, quoting, admitting, releasing, told, Ledger, moved}
 
 -- a call with the words that it is lent, as they stand before it
 abbrev pub Lending : Type 0

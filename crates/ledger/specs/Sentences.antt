@@ -11,8 +11,8 @@ use Rattle.network.specs.Reduce.{one, two, Enough}
 use Rattle.network.specs.declared.Request.{Request}
 use Rattle.area.specs.Books.{Books, books}
 use Rattle.rules.specs.Replies.{Reply, refuses, grants}
-use Rattle.rules.specs.Rules.{Rule}
-use Rattle.ledger.specs.Ledger.{Call, quoting, admitting, releasing, Ledger, seen}
+use Rattle.rules.specs.Allowed.{Rule}
+use Rattle.ledger.specs.Entries.{Call, quoting, admitting, releasing, Ledger, seen}
 use Rattle.ledger.specs.History.{Event, after}
 
 abbrev pub IsRefused : Reply → Type 0

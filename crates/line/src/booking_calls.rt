@@ -1,14 +1,14 @@
-// Quote, admission and release.
+// Quote, admission and release for C.
 ghost use mathlib.Core.Path.{_≡_};
 ghost use lib.ListN.{length};
 ghost use Rattle.rules.specs.Replies.{answerOf, pathAfter};
 ghost use Rattle.rules.specs.Calls.{quote, admission, booked, release, cleared};
 ghost use Rattle.rules.specs.Meaning.{Quoted, Admitted, Cleared};
-ghost use Rattle.line_codes.specs.Codes.{asked, answerCode, grantWords};
+ghost use Rattle.line.specs.Codes.{asked, answerCode, grantWords};
+use crate::replies::request;
+use crate::replies::tell;
 use booking::calls;
-use line_codes::replies::request;
-use line_codes::replies::tell;
-use quotes::quote::quote;
+use booking::quote::quote;
 use rules::Answer;
 
 // 5, 6, 7, 8, 9 and 10; else 0, problem, delay, cost and links in `answer` and the path's links in `path`. Work memory is

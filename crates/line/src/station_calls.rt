@@ -1,12 +1,12 @@
-// Load, listing and free units.
+// Load, listing and free units for C.
 ghost use mathlib.Core.Path.{_≡_};
 ghost use lib.ListN.{length};
-ghost use Rattle.loading.specs.Load.{loadAnswer, areaLoaded};
-ghost use Rattle.station.specs.Reads.{listAnswer, listed, Lists, freeAnswer};
-ghost use Rattle.line_codes.specs.Codes.{loadCode, readingCode, valueWord};
-use line_codes::readings::tell;
-use loading::Loading;
-use loading::load::load;
+ghost use Rattle.area.specs.Load.{loadAnswer, areaLoaded};
+ghost use Rattle.area.specs.Reads.{listAnswer, listed, Lists, freeAnswer};
+ghost use Rattle.line.specs.Codes.{loadCode, readingCode, valueWord};
+use crate::readings::tell;
+use area::Loading;
+use station::load::load;
 use station::reads;
 
 // 1, 2, 3 and 4; else 0, and n, m, 0 and the links are written.

@@ -1,11 +1,11 @@
-// The service classes and the link file.
+// The class call and the link-file reader for C.
 ghost use mathlib.Core.Path.{_≡_};
 ghost use lib.ListN.{length};
-ghost use Rattle.classes.specs.Classes.{classAnswer};
+ghost use Rattle.rules.specs.Classes.{classAnswer};
 ghost use Rattle.link_format.specs.Reading.{readAnswer, tableRead};
-ghost use Rattle.line_codes.specs.Codes.{classCode, rowWords, fileCode, sizeWords};
-use classes::Answer;
+ghost use Rattle.line.specs.Codes.{classCode, rowWords, fileCode, sizeWords};
 use link_format::Reading;
+use rules::ClassAnswer;
 
 // 16; else 0, and units, D, C and coefficient in `answer`.
 #[no_mangle]
@@ -14,8 +14,8 @@ pub extern "C" fn line_class(class: u32, answer: &mut [u32; 4]) -> u32
     ensures answer { λ _. ⌜ now (answer .exit) ≡ rowWords (classAnswer class) (now (answer .entry)) ⌝ }
 {
     match classes::class(class) {
-        Answer::Refused(k) => k,
-        Answer::Row(s) => {
+        ClassAnswer::Refused(k) => k,
+        ClassAnswer::Row(s) => {
             *answer = [s.units, s.delay_bound, s.cost_bound, s.coefficient];
             0
         }

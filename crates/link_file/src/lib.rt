@@ -3,14 +3,20 @@
 //
 // The reader takes anything: any bytes, a table of any length. It checks in document 01's order and refuses by the first
 // number that applies; a refusal changes nothing.
+//
+// `word` reads a word and the letters at the end; `records` the records, from the part of the file that is handed to it.
 ghost use mathlib.Core.Path.{_≡_};
 ghost use lib.ListN.{length};
 ghost use Rattle.link_format.specs.Reading.{readAnswer, tableRead};
+
+mod records;
+mod word;
+
+use crate::records::read_records;
+use crate::word::is_signed;
+use crate::word::word;
 use link_format::Reading;
 use link_format::Size;
-use link_records::records::read_records;
-use link_records::word::is_signed;
-use link_records::word::word;
 use links::link;
 
 // 17, 18 and 19 in this order; else n and m, and the records' words stand in the first 5 m words of `table`, whose other

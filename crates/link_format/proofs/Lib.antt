@@ -1,5 +1,5 @@
 -- The laws of the link file.
 pub mod ReadCases
 pub mod Accepted
-pub mod Bytes
+mod Bytes
 pub mod LinkFiles

@@ -1,2 +1,3 @@
+-- What a link file is, and what its reader answers.
 pub mod Format
 pub mod Reading

@@ -1,10 +1,10 @@
 pub mod Tests
 pub mod Loops
 pub mod Columns
-pub mod Words
-pub mod Least
+mod Words
+mod Least
 pub mod NodeSet
-pub mod Scaling
+mod Scaling
 pub mod Paths
 pub mod Few
 pub mod Short

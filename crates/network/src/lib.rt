@@ -1,5 +1,5 @@
 // Networks of links: what a path, a scaled weight, a reduced problem and a solution are (specs/), with their laws (proofs/).
-// There is no code here but the types of a request and of a search's answer; every crate but `classes` stands on it.
+// There is no code here but the types of a request and of a search's answer. Every other room speaks in these terms.
 
 // A request of document 01: from source to target for some units, within both bounds; the search's x is the
 // coefficient times the distance.

@@ -1,31 +1,32 @@
 // The route search of document 01, the lower crate: a path within a delay bound and a cost bound by the extended
 // Bellman-Ford search, problem one and else problem two, as in section 2.3 of the paper.
 //
+// A search goes through the modules in this order: `distance`, `problems`, and for each problem `weights`, then `attempt`
+// with `table` (lines 1 to 5), `rounds` (lines 21 to 24) with `relax` (lines 6 to 10), `trace` and `path`.
+//
 // Only `search` can be called from outside. What the functions below it require follows from what `search` requires,
 // and each caller shows it; what `search` requires, the upper crate's calls have checked before they search.
 ghost use mathlib.Core.Path.{_≡_};
 ghost use Rattle.network.specs.Words.{netOf};
-ghost use Rattle.ebf.specs.Search.{search};
-ghost use Rattle.attempt.specs.Answers.{answerOf, pathAfter};
-ghost use Rattle.route.specs.Ready.{Ready};
+ghost use Rattle.search.specs.Heuristic.{search};
+ghost use Rattle.search.specs.Answers.{answerOf, pathAfter};
+ghost use Rattle.search.specs.Ready.{Ready};
 
+mod attempt;
+mod distance;
+mod path;
 mod problems;
+mod relax;
+mod rounds;
+mod table;
+mod trace;
+mod weights;
 
+use crate::distance::distance;
 use crate::problems::both_problems;
-use distance::distance::distance;
 use links::link;
 use network::Answer;
 use network::Request;
-
-// The roles of a link's two weights in problem `which`, 1 or 2: the weight in word `kept` of each link stays within its
-// bound, and the weight in word `other` is scaled by its own.
-pub struct Roles {
-    pub which: u32,
-    pub kept: usize,
-    pub kept_bound: u32,
-    pub other: usize,
-    pub other_bound: u32,
-}
 
 // Searches for a path for request `r` among `m` links and `n` nodes; a link whose flag in `usable` is 1 is usable.
 // A granted path stands in the first words of `path`. Work memory may hold anything before, and is open after.

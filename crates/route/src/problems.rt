@@ -2,18 +2,18 @@
 ghost use mathlib.Core.Path.{_≡_};
 ghost use Prim.Native.Nat.{_≤_};
 ghost use Rattle.network.specs.Words.{netOf};
-ghost use Rattle.ebf.specs.Search.{tried};
-ghost use Rattle.attempt.specs.Answers.{answerOf, pathAfter};
-ghost use Rattle.route.specs.Ready.{Ready};
-ghost use Rattle.route.specs.Roles.{Weights, outcomeBy};
-use crate::Roles;
-use attempt::attempt::attempt;
+ghost use Rattle.search.specs.Heuristic.{tried};
+ghost use Rattle.search.specs.Answers.{answerOf, pathAfter};
+ghost use Rattle.search.specs.Ready.{Ready};
+ghost use Rattle.search.specs.Roles.{Weights, outcomeBy};
+use crate::attempt::attempt;
+use crate::weights::scaled_column;
 use links::link;
 use links::link::column;
 use network::Answer;
 use network::Request;
-use scaled_weights::weights::scaled_column;
-use table::Reduced;
+use search::Reduced;
+use search::Roles;
 
 // The answer of one problem of request `r` at `x`, with the weights in the roles `w`. Both problems are this one: the
 // roles alone exchange the weights.

@@ -26,12 +26,12 @@ use Rattle.area.proofs.Formed.{formed-says}
 use Rattle.area.proofs.Found.{holds-found}
 use Rattle.area.proofs.Added.{added-long, added-untouched, added-station}
 use Rattle.area.proofs.Removed.{removed-long, removed-untouched, removed-station}
-use Rattle.station.proofs.ReadCases.{links-few, held-few}
+use Rattle.area.proofs.ReadCases.{links-few, held-few}
 use Rattle.area.proofs.Keeps.{sound-added, sound-removed, without-one, without-gone}
 use Rattle.rules.specs.Requests.{RequestFits, requestFits}
 use Rattle.rules.specs.Replies.{Reply, refuses, grants, releases}
 use Rattle.rules.specs.Calls.{booksIn, sought, numberFits, admitChecks, admission, booked, releaseChecks, release, cleared}
-use Rattle.rules.specs.Rules.{Answered, Grant, by-one, by-two, searchRules, NumberFits}
+use Rattle.rules.specs.Allowed.{Answered, Grant, by-one, by-two, searchRules, NumberFits}
 use Rattle.rules.specs.Meaning.{netFor}
 use Rattle.rules.proofs.Facts.{granted-not-refused, released-not-refused, whole-path, some-link, count-is, held-number}
 use Rattle.rules.proofs.Meaning.{request-says, number-says, area-searchable, sought-means}

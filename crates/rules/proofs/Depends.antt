@@ -8,14 +8,14 @@ use mathlib.Core.List.{List, [], _∷_, _++_}
 use lib.Dec.{leb}
 use lib.ListN.{length}
 use Rattle.network.specs.declared.Request.{Request}
-use Rattle.ebf.specs.Alike.{Alike}
-use Rattle.ebf.specs.Search.{search}
-use Rattle.route.proofs.Result.{result-depends}
+use Rattle.search.specs.Alike.{Alike}
+use Rattle.search.specs.Heuristic.{search}
+use Rattle.search.proofs.Result.{result-depends}
 use Rattle.area.specs.Station.{station}
 use Rattle.area.specs.Books.{Books, books, net}
 use Rattle.area.specs.Formed.{wellFormed}
 use Rattle.area.specs.Checks.{_unless_, checked}
-use Rattle.station.proofs.Depends.{formed-depends}
+use Rattle.area.proofs.Depends.{formed-depends}
 use Rattle.rules.specs.Replies.{Reply, refuses, releases}
 use Rattle.rules.specs.Calls.{booksIn, sought, requestChecks, numberChecks, quote, admission, release}
 

@@ -15,7 +15,7 @@ use Rattle.network.specs.Net.{Net}
 use Rattle.network.specs.Reduce.{Outcome, no-path, no-solution, granted}
 use Rattle.network.specs.declared.Request.{Request}
 use Rattle.network.specs.declared.Grant.{Grant}
-use Rattle.attempt.specs.Answers as attempt
+use Rattle.search.specs.Answers as attempt
 use Rattle.area.specs.Station.{nodesIn, tableIn, station, wordsAt}
 use Rattle.area.specs.Books.{books}
 use Rattle.area.specs.Formed.{WellFormed, wellFormed}
@@ -27,7 +27,7 @@ use Rattle.rules.specs.declared.Answer.the-variants.{Refused, Granted}
 use Rattle.rules.specs.Replies.{Reply, refuses, grants, releases, answerOf, told, replyOf, pathAfter}
 use Rattle.rules.specs.Requests.{RequestFits, requestFits}
 use Rattle.rules.specs.Calls.{booksIn, sought, quote, admission, booked}
-use Rattle.rules.specs.Rules.{Answered, Grant as Means, searchRules}
+use Rattle.rules.specs.Allowed.{Answered, Grant as Means, searchRules}
 use Rattle.rules.specs.Meaning.{netFor, Quoted, Admitted}
 use Rattle.rules.proofs.Meaning.{request-says, sought-means, quote-means, admission-means}
 use Rattle.rules.proofs.Bookings.{grant-path, searched, seen-short}

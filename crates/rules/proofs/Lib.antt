@@ -4,3 +4,5 @@ pub mod Bookings
 pub mod Depends
 pub mod CallCases
 pub mod Granting
+pub mod RequestCases
+pub mod Seeking

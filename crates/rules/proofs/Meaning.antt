@@ -13,16 +13,16 @@ use Rattle.network.specs.Net.{Net}
 use Rattle.network.specs.Reduce.{delayBound, costBound, Outcome, no-path, no-solution, granted}
 use Rattle.network.specs.declared.Request.{Request}
 use Rattle.network.proofs.Tests.{fst-of, snd-of, zero-one}
-use Rattle.ebf.specs.Search.{search}
-use Rattle.route.specs.Result.{Searchable, Result}
-use Rattle.route.proofs.Result.{search-result}
+use Rattle.search.specs.Heuristic.{search}
+use Rattle.search.specs.Result.{Searchable, Result}
+use Rattle.search.proofs.Result.{search-result}
 use Rattle.area.specs.Books.{Books, books, net}
 use Rattle.area.specs.Formed.{WellFormed, inRange, wellFormed}
 use Rattle.area.proofs.Formed.{both, range-says, range-test, formed-says, formed-test}
 use Rattle.rules.specs.Requests.{RequestFits, requestFits}
 use Rattle.rules.specs.Replies.{Reply, refuses, replyOf}
 use Rattle.rules.specs.Calls.{booksIn, sought, numberFits, quote, admission, release}
-use Rattle.rules.specs.Rules.{Rule, _when_, Answered, Grant, by-one, by-two, searchRules, NumberFits}
+use Rattle.rules.specs.Allowed.{Rule, _when_, Answered, Grant, by-one, by-two, searchRules, NumberFits}
 use Rattle.rules.specs.Meaning.{netFor, Quoted, Admitted, Cleared}
 
 -- ---- a request's ranges, and a circuit number's: the test says what the statement says

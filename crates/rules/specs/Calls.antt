@@ -6,7 +6,7 @@ use mathlib.Core.Bool.{Bool, not, _&&_}
 use mathlib.Core.List.{List, [], _∷_, _++_}
 use lib.Dec.{ltb, leb}
 use Rattle.network.specs.declared.Request.{Request}
-use Rattle.ebf.specs.Search.{search}
+use Rattle.search.specs.Heuristic.{search}
 use Rattle.area.specs.Station.{station, heldIn}
 use Rattle.area.specs.Books.{Books, books, net}
 use Rattle.area.specs.Held.{foundAt}

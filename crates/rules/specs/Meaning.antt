@@ -9,7 +9,7 @@ use Rattle.area.specs.Books.{net}
 use Rattle.area.specs.Formed.{WellFormed}
 use Rattle.rules.specs.Replies.{Reply, releases}
 use Rattle.rules.specs.Calls.{booksIn}
-use Rattle.rules.specs.Rules.{Rule, _when_, Answered, Grant, searchRules, requestRules, numberRules, releaseRules}
+use Rattle.rules.specs.Allowed.{Rule, _when_, Answered, Grant, searchRules, requestRules, numberRules, releaseRules}
 
 -- the rules of an area before the search
 abbrev pub quoteRules : List ℕ → ℕ → ℕ → Request → List Rule

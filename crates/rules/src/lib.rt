@@ -1,6 +1,6 @@
-// What quote, admission and release answer, leave and mean (specs/), with the laws of that (proofs/): the contracts of
-// the calls in `quotes` and `booking` cite it, and the ledger reads its rules. There is no code here but the answer's
-// type.
+// What quote, admission, release and the class call answer and leave, and what that means (specs/), with the laws of that
+// (proofs/): the contracts in `booking` and `classes` cite it, and the ledger reads its rules. There is no code here but
+// the answers' types.
 use network::Grant;
 
 // What a call answers: document 01's number; a granted path's problem, delay, cost and number of links; or released.
@@ -8,4 +8,18 @@ pub enum Answer {
     Refused(u32),
     Granted(Grant),
     Released,
+}
+
+// What a class asks for: its units, its bounds D and C, and its coefficient.
+pub struct Service {
+    pub units: u32,
+    pub delay_bound: u32,
+    pub cost_bound: u32,
+    pub coefficient: u32,
+}
+
+// What the class call answers: document 01's number, or the class's row.
+pub enum ClassAnswer {
+    Refused(u32),
+    Row(Service),
 }

@@ -4,11 +4,11 @@ ghost use mathlib.Core.List.{_++_};
 ghost use Prim.Native.Nat.{_≤_};
 ghost use lib.ListN.{length, drop};
 ghost use Rattle.area.specs.Held.{numbersFrom};
-ghost use Rattle.station.specs.Reads.{listAnswer, listed, Lists, freeAnswer};
-ghost use Rattle.area_fit.specs.Ready.{Room};
-use crate::Reading;
-use area_check::check::check;
-use area_words::layout;
+ghost use Rattle.area.specs.Reads.{listAnswer, listed, Lists, freeAnswer};
+ghost use Rattle.area.specs.Ready.{Room};
+use crate::check::check;
+use crate::layout;
+use area::Reading;
 use links::link;
 
 // The numbers of the first `h` circuits.

@@ -1,8 +1,8 @@
-// Which links are usable for a request: those whose free units are at least its units.
+// Which links are usable for a request: those whose free units are at least its units. The search reads the flags.
 ghost use mathlib.Core.Path.{_≡_};
 ghost use Prim.Native.Nat.{ℕ, _<_};
 ghost use lib.ListN.{getD};
-ghost use Rattle.station.specs.Usable.{flag};
+ghost use Rattle.area.specs.Usable.{flag};
 
 // 1 where the free units are enough, else 0.
 fn flag(units: u32, free: u32) -> u32

@@ -4,15 +4,15 @@
 // number that no link has, so that a link that was not written shows.
 ghost use Prim.Native.Nat.{_<_, _≤_};
 ghost use lib.ListN.{length};
+use area::Reading;
 use booking::calls;
+use booking::quote::quote;
 use cases::NET_A;
 use cases::NET_B;
 use libc::STDOUT_FILENO;
-use loading::load::load;
 use network::Request;
-use quotes::quote::quote;
 use rules::Answer;
-use station::Reading;
+use station::load::load;
 use station::reads;
 
 // The quotes of the cases, in the order in which they are asked: case, target, units, delay bound, cost bound and

@@ -7,9 +7,9 @@ use native.Mathlib.Omega.{arith}
 use borrow.Author.Needs.{needs}
 use borrow.Author.Tests.{le-leb, lt-leb}
 use lib.ListN.{getD, List·getD-map}
-use Rattle.classes.specs.declared.Service.{Service}
-use Rattle.classes.specs.declared.Answer.the-variants.{Row}
-use Rattle.classes.specs.Classes.{asks, rows, classAnswer}
+use Rattle.rules.specs.declared.Service.{Service}
+use Rattle.rules.specs.declared.ClassAnswer.the-variants.{Row}
+use Rattle.rules.specs.Classes.{asks, rows, classAnswer}
 use Rattle.classes.proofs.class.Statement.{statement}
 use Rattle.classes.proofs.class.Tie as tie
 

@@ -1,7 +1,7 @@
 -- `route::search` meets its contract: no path where the distance is not below n, else both problems at x.
 -- Assumes nothing.
 use native.Mathlib.Omega.{arith}
-use Rattle.route.proofs.Reductions.{x-below, search-nowhere, search-somewhere}
+use Rattle.search.proofs.Reductions.{x-below, search-nowhere, search-somewhere}
 use borrow.Author.Needs.{needs}
 use Rattle.route.proofs.search.Statement.{statement}
 use Rattle.route.proofs.search.Tie as tie

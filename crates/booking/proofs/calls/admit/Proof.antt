@@ -9,8 +9,8 @@ use borrow.Author.Needs.{needs}
 use borrow.Author.Tests.{not-true, not-false}
 use denote.Enum.Declared.{tagOf}
 use lib.ListN.{length}
-use Rattle.station.proofs.ReadCases.{formed-long}
-use Rattle.area_fit.proofs.CircuitCases.{part-length}
+use Rattle.area.proofs.ReadCases.{formed-long}
+use Rattle.area.proofs.CircuitCases.{part-length}
 use Rattle.network.specs.declared.Request.{Request}
 use Rattle.rules.specs.Calls.{booksIn, sought, admission}
 use Rattle.rules.proofs.Answer.{the-type}

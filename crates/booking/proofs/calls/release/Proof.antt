@@ -11,7 +11,7 @@ use borrow.Author.Tests.{not-true, not-false}
 use Rattle.area.specs.Held.{foundAt}
 use Rattle.area.specs.Formed.{wellFormed}
 use Rattle.area.specs.Moves.{removed}
-use Rattle.station.proofs.ReadCases.{formed-long, formed-held}
+use Rattle.area.proofs.ReadCases.{formed-long, formed-held}
 use Rattle.rules.specs.declared.Answer.{Answer}
 use Rattle.rules.specs.declared.Answer.the-variants.{Refused, Released}
 use Rattle.rules.specs.Replies.{Reply, refuses, releases, answerOf}

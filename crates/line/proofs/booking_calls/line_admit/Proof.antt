@@ -11,7 +11,7 @@ use Rattle.rules.specs.declared.Answer.{Answer}
 use Rattle.rules.specs.Replies.{answerOf, pathAfter}
 use Rattle.rules.specs.Calls.{admission, booked}
 use Rattle.rules.specs.Meaning.{Admitted}
-use Rattle.line_codes.specs.Codes.{answerCode, grantWords}
+use Rattle.line.specs.Codes.{answerCode, grantWords}
 use Rattle.line.proofs.booking_calls.line_admit.Statement.{statement}
 use Rattle.line.proofs.booking_calls.line_admit.Tie as tie
 

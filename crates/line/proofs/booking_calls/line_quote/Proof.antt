@@ -11,7 +11,7 @@ use Rattle.rules.specs.declared.Answer.{Answer}
 use Rattle.rules.specs.Replies.{answerOf, pathAfter}
 use Rattle.rules.specs.Calls.{quote}
 use Rattle.rules.specs.Meaning.{Quoted}
-use Rattle.line_codes.specs.Codes.{answerCode, grantWords}
+use Rattle.line.specs.Codes.{answerCode, grantWords}
 use Rattle.line.proofs.booking_calls.line_quote.Statement.{statement}
 use Rattle.line.proofs.booking_calls.line_quote.Tie as tie
 

@@ -3,7 +3,7 @@
 -- Assumes nothing.
 use mathlib.Core.Path.{sym, ap, _∙_}
 use borrow.Author.Needs.{needs}
-use Rattle.line_codes.specs.Codes.{answerCode}
+use Rattle.line.specs.Codes.{answerCode}
 use Rattle.line.proofs.booking_calls.line_release.Statement.{statement}
 use Rattle.line.proofs.booking_calls.line_release.Tie as tie
 

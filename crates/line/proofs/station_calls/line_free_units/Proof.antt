@@ -3,8 +3,8 @@
 -- Assumes nothing.
 use mathlib.Core.Path.{ap, _∙_}
 use borrow.Author.Needs.{needs}
-use Rattle.station.specs.declared.Reading.{Reading}
-use Rattle.line_codes.specs.Codes.{readingCode, valueWord}
+use Rattle.area.specs.declared.Reading.{Reading}
+use Rattle.line.specs.Codes.{readingCode, valueWord}
 use Rattle.line.proofs.station_calls.line_free_units.Statement.{statement}
 use Rattle.line.proofs.station_calls.line_free_units.Tie as tie
 

@@ -3,7 +3,7 @@
 -- Assumes nothing.
 use mathlib.Core.Path.{sym, ap, _∙_}
 use borrow.Author.Needs.{needs}
-use Rattle.line_codes.specs.Codes.{loadCode}
+use Rattle.line.specs.Codes.{loadCode}
 use Rattle.line.proofs.station_calls.line_load.Statement.{statement}
 use Rattle.line.proofs.station_calls.line_load.Tie as tie
 

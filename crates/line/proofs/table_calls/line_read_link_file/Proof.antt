@@ -7,7 +7,7 @@ use mathlib.Core.List.{List}
 use borrow.Author.Needs.{needs}
 use Rattle.link_format.specs.declared.Reading.{Reading}
 use Rattle.link_format.specs.declared.Reading.the-variants as file
-use Rattle.line_codes.specs.Codes.{fileCode, sizeWords}
+use Rattle.line.specs.Codes.{fileCode, sizeWords}
 use Rattle.line.proofs.table_calls.line_read_link_file.Statement.{statement}
 use Rattle.line.proofs.table_calls.line_read_link_file.Tie as tie
 

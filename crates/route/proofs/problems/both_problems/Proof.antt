@@ -4,7 +4,7 @@ use mathlib.Core.Path.{refl, _∙_}
 use native.Mathlib.Omega.{arith}
 use denote.Enum.Declared.{tagOf}
 use Rattle.network.proofs.Answer.{the-type}
-use Rattle.route.proofs.Reductions.{other-case, ready-again, first-answers, second-answers}
+use Rattle.search.proofs.Reductions.{other-case, ready-again, first-answers, second-answers}
 use borrow.Author.Needs.{needs}
 use Rattle.route.proofs.problems.both_problems.Statement.{statement}
 use Rattle.route.proofs.problems.both_problems.Tie as tie

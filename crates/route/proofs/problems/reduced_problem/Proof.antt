@@ -1,7 +1,7 @@
 -- `route::problems::reduced_problem` meets its contract: the columns hold the weights in their roles.
 -- Assumes nothing.
 use native.Mathlib.Omega.{arith}
-use Rattle.route.proofs.Reductions.{weight-light, roles-sound, roles-answer}
+use Rattle.search.proofs.Reductions.{weight-light, roles-sound, roles-answer}
 use borrow.Author.Needs.{needs}
 use Rattle.route.proofs.problems.reduced_problem.Statement.{statement}
 use Rattle.route.proofs.problems.reduced_problem.Tie as tie

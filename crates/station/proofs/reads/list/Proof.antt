@@ -8,7 +8,7 @@ use borrow.Author.Needs.{needs}
 use borrow.Author.Tests.{not-true, not-false}
 use lib.ListN.{drop}
 use Rattle.area.specs.Held.{numbersFrom}
-use Rattle.station.proofs.ReadCases.{formed-long, formed-held, list-unfit, list-short, list-all, lists}
+use Rattle.area.proofs.ReadCases.{formed-long, formed-held, list-unfit, list-short, list-all, lists}
 use Rattle.station.proofs.reads.list.Statement.{statement}
 use Rattle.station.proofs.reads.list.Tie as tie
 

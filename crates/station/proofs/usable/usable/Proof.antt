@@ -5,7 +5,7 @@ use native.Mathlib.Omega.{arith}
 use borrow.Author.Needs.{needs}
 use lib.ListN.{getD}
 use Rattle.network.proofs.Columns.{Filled, filled-none, filled-more}
-use Rattle.station.specs.Usable.{flag}
+use Rattle.area.specs.Usable.{flag}
 use Rattle.station.proofs.usable.usable.Statement.{statement}
 use Rattle.station.proofs.usable.usable.Tie as tie
 

@@ -1,0 +1,119 @@
+-- An accepted load: the area holds the table that was given and no circuit, it is well formed, and every word past the
+-- links keeps its contents.
+-- Assumes nothing.
+use mathlib.Core.Path.{_≡_, refl, sym, ap, _∙_, subst}
+use mathlib.Core.Bool.{true, _&&_}
+use mathlib.Core.List.{List, [], _∷_, _++_}
+use Prim.Native.Nat.{ℕ, _+_, _*_, _-_, _/_, _%_, _≤_}
+use native.Mathlib.Omega.{arith}
+use lib.Dec.{leb, eqb}
+use lib.ListN.{length, getD, drop, length-append, length-drop, List·getD-append}
+use lib.Seq.{getD-append-add, getD-drop}
+use borrow.Author.Tests.{leb-true, eqb-true}
+use Rattle.network.proofs.Tests.{fst-of, snd-of, zero-one}
+use Rattle.area.specs.Station.{wordsAt, station, tableIn}
+use Rattle.area.specs.Formed.{Sound, WellFormed, inRange, linksFit}
+use Rattle.area.specs.Checks.{pass}
+use Rattle.area.specs.declared.Loading.the-variants.{Refused, Loaded}
+use Rattle.area.specs.Load.{tableOf, fresh, loadChecks, loadAnswer, loaded, areaLoaded}
+use Rattle.area.proofs.Checks.{all-pass}
+use Rattle.area.proofs.Formed.{range-says, links-says}
+use Rattle.area.proofs.WordsAt.{words-list}
+
+module _ (w : List ℕ) (n : ℕ) (links : List ℕ) where
+  -- the words past the links keep their contents
+  pub loaded-keeps : (i : ℕ) → 3 + length links ≤ i → getD (loaded w n links) i 0 ≡ getD w i 0
+  unfolding loaded
+  loaded-keeps i past =
+      let back : i ≡ 3 + (length links + (i - (3 + length links))) = omega arith in
+      let on : 3 + length links + (i - (3 + length links)) ≡ i = omega arith in
+      ap (λ (k : ℕ). getD (loaded w n links) k 0) back
+      ∙ getD-append-add (n ∷ length links / 5 ∷ 0 ∷ []) (links ++ drop (3 + length links) w) (length links + (i - (3 + length links))) 0
+      ∙ getD-append-add links (drop (3 + length links) w) (i - (3 + length links)) 0
+      ∙ getD-drop (3 + length links) w (i - (3 + length links)) 0
+      ∙ ap (λ (k : ℕ). getD w k 0) on
+
+  -- no word more and no word less
+  pub loaded-long : 3 + length links ≤ length w → length (loaded w n links) ≡ length w
+  unfolding loaded
+  loaded-long fits = simp (length-append, length-drop) (omega arith)
+
+  module _ (ok : pass (loadChecks w n links) ≡ true) where
+    -- what the checks say, one by one
+    long : 3459 ≤ length w
+    long = leb-true 3459 (length w) (fst-of (leb 3459 (length w)) _ ok)
+
+    after-first : (inRange 2 32 n && ((eqb (length links % 5) 0 && leb (length links) 1280) && (linksFit (tableOf n links) && true))) ≡ true
+    after-first = snd-of (leb 3459 (length w)) _ ok
+
+    nodes : (2 ≤ n) × (n ≤ 32)
+    nodes = range-says 2 32 n (fst-of (inRange 2 32 n) _ after-first)
+
+    after-second : ((eqb (length links % 5) 0 && leb (length links) 1280) && (linksFit (tableOf n links) && true)) ≡ true
+    after-second = snd-of (inRange 2 32 n) _ after-first
+
+    words : (eqb (length links % 5) 0 && leb (length links) 1280) ≡ true
+    words = fst-of (eqb (length links % 5) 0 && leb (length links) 1280) _ after-second
+
+    fives : 5 * (length links / 5) ≡ length links
+    fives = omega (arith, eqb-true (length links % 5) 0 (fst-of (eqb (length links % 5) 0) _ words))
+
+    few : length links ≤ 1280
+    few = leb-true (length links) 1280 (snd-of (eqb (length links % 5) 0) _ words)
+
+    links-fit : linksFit (tableOf n links) ≡ true
+    links-fit = fst-of (linksFit (tableOf n links)) _ (snd-of (eqb (length links % 5) 0 && leb (length links) 1280) _ after-second)
+
+    -- the area is read as the table that was given, with no circuit
+    pub loaded-station : station (loaded w n links) ≡ fresh n links
+    unfolding station tableIn loaded
+    loaded-station = λ t. record { table = record { nodes = n; links = length links / 5; words = read t }; held = [] }
+      where
+        read : wordsAt (loaded w n links) 3 (5 * (length links / 5)) ≡ links
+        read =
+            ap (wordsAt (loaded w n links) 3) fives
+            ∙ words-list (loaded w n links) 3 links λ i low.
+            getD-append-add (n ∷ length links / 5 ∷ 0 ∷ []) (links ++ drop (3 + length links) w) i 0
+            ∙ List·getD-append links (drop (3 + length links) w) 0 i low
+
+    -- a table that passed the checks, with no circuit, is sound
+    fresh-sound : Sound (fresh n links)
+    fresh-sound =
+        record {
+          table = record {
+            nodes-least = nodes .0;
+            nodes-most = nodes .1;
+            links-most = omega (arith, few, fives);
+            each = links-says (tableOf n links) links-fit;
+          };
+          few = omega arith;
+          each = tt;
+          differ = tt;
+          within = λ i low. omega arith;
+        }
+
+    -- the area is well formed
+    pub loaded-formed : WellFormed (loaded w n links)
+    loaded-formed =
+        record {
+          long = omega (arith, loaded-long (omega (arith, few, long)), long);
+          sound = subst Sound (sym loaded-station) fresh-sound;
+        }
+
+  -- ---- by Load's answer, and the area that it leaves
+  accepted-passes : loadAnswer w n links ≡ Loaded → pass (loadChecks w n links) ≡ true
+  unfolding loadAnswer
+  accepted-passes e = all-pass Refused (loadChecks w n links) Loaded Loaded refusal e .0
+    where
+      refusal : (k : ℕ) → Refused k ≡ Loaded → ⊥
+      refusal k f = zero-one cc
+
+  accepted-loaded : loadAnswer w n links ≡ Loaded → areaLoaded w n links ≡ loaded w n links
+  unfolding areaLoaded
+  accepted-loaded e = rw (accepted-passes e) refl
+
+  pub accepted-station : loadAnswer w n links ≡ Loaded → station (areaLoaded w n links) ≡ fresh n links
+  accepted-station e = ap station (accepted-loaded e) ∙ loaded-station (accepted-passes e)
+
+  pub accepted-formed : loadAnswer w n links ≡ Loaded → WellFormed (areaLoaded w n links)
+  accepted-formed e = subst WellFormed (sym (accepted-loaded e)) (loaded-formed (accepted-passes e))

@@ -1,3 +1,0 @@
-pub mod Taken
-pub mod CircuitUnits
-pub mod CheckCases

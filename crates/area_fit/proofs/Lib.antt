@@ -1,3 +1,0 @@
-pub mod LinkTest
-pub mod Onward
-pub mod CircuitCases

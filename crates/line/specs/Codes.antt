@@ -1,0 +1,68 @@
+-- What the C functions give for each answer of the calls: document 01's refusal number, or 0 where there is none; and the
+-- words of the answer array after, which a refusal leaves as they stood.
+-- Assumes nothing.
+use Prim.Native.Nat.{ℕ}
+use mathlib.Core.List.{List, [], _∷_}
+use Rattle.network.specs.declared.Request.{Request}
+use Rattle.area.specs.declared.Loading.{Loading}
+use Rattle.area.specs.declared.Loading.the-variants as loading
+use Rattle.area.specs.declared.Reading.{Reading}
+use Rattle.area.specs.declared.Reading.the-variants as reading
+use Rattle.rules.specs.declared.Answer.{Answer}
+use Rattle.rules.specs.declared.Answer.the-variants as answer
+use Rattle.rules.specs.declared.ClassAnswer.{ClassAnswer}
+use Rattle.rules.specs.declared.ClassAnswer.the-variants as class
+use Rattle.link_format.specs.declared.Reading.{Reading as FileReading}
+use Rattle.link_format.specs.declared.Reading.the-variants as file
+
+-- the request of the numbers in the order of the C parameters
+abbrev pub asked : ℕ → ℕ → ℕ → ℕ → ℕ → ℕ → Request
+asked s t units delay cost coefficient =
+    record { source = s; target = t; units = units; «delay_bound» = delay; «cost_bound» = cost; coefficient = coefficient }
+
+-- ---- quote, admission and release
+unfoldable pub answerCode : Answer → ℕ
+answerCode (answer.Refused k) = k
+answerCode (answer.Granted g) = 0
+answerCode answer.Released = 0
+
+-- problem, delay, cost, links
+unfoldable pub grantWords : Answer → List ℕ → List ℕ
+grantWords (answer.Refused k) before = before
+grantWords (answer.Granted g) before = g .problem ∷ g .delay ∷ g .cost ∷ g .links ∷ []
+grantWords answer.Released before = before
+
+-- ---- load
+unfoldable pub loadCode : Loading → ℕ
+loadCode (loading.Refused k) = k
+loadCode loading.Loaded = 0
+
+-- ---- listing and free units
+unfoldable pub readingCode : Reading → ℕ
+readingCode (reading.Refused k) = k
+readingCode (reading.Value v) = 0
+
+-- h, or the free units
+unfoldable pub valueWord : Reading → List ℕ → List ℕ
+valueWord (reading.Refused k) before = before
+valueWord (reading.Value v) before = v ∷ []
+
+-- ---- class
+unfoldable pub classCode : ClassAnswer → ℕ
+classCode (class.Refused k) = k
+classCode (class.Row s) = 0
+
+-- units, D, C, coefficient
+unfoldable pub rowWords : ClassAnswer → List ℕ → List ℕ
+rowWords (class.Refused k) before = before
+rowWords (class.Row s) before = s .units ∷ s .«delay_bound» ∷ s .«cost_bound» ∷ s .coefficient ∷ []
+
+-- ---- link file
+unfoldable pub fileCode : FileReading → ℕ
+fileCode (file.Refused k) = k
+fileCode (file.Table s) = 0
+
+-- n, m
+unfoldable pub sizeWords : FileReading → List ℕ → List ℕ
+sizeWords (file.Refused k) before = before
+sizeWords (file.Table s) before = s .nodes ∷ s .links ∷ []

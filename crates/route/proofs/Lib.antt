@@ -1,2 +1,0 @@
-pub mod Reductions
-pub mod Result

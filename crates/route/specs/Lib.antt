@@ -1,3 +1,0 @@
-pub mod Ready
-pub mod Roles
-pub mod Result

@@ -1,0 +1,71 @@
+// The noted links from s to t, written into the path buffer, with the path's own totals. The contracts give the
+// network no flags, [], since the pass does not ask which links are usable.
+ghost use mathlib.Core.List.{[]};
+ghost use mathlib.Core.Path.{_≡_};
+ghost use Prim.Native.Nat.{_+_, _≤_, _<_};
+ghost use lib.ListN.{length};
+ghost use Rattle.network.specs.Words.{netOf, Links};
+ghost use Rattle.search.specs.Forward.{OnWay, advanced, forwarded};
+use links::link;
+use search::Leg;
+
+// One link more, unless the path has come to t. The test of the note keeps any notes safe to read.
+fn advance(
+    n: usize,
+    m: usize,
+    links: &[u32],
+    next: &[u32; 32],
+    path: &mut [u32],
+    t: usize,
+    k: usize,
+    w: Leg,
+) -> Leg
+    requires { ⌜ Links n m (now links) ⌝ }
+    requires { ⌜ (31 ≤ length (now path)) × (k < 31) × OnWay n k w ⌝ }
+    ensures is { λ r. ⌜ (r, now (path .exit)) ≡ advanced (netOf n m (now (links .entry)) []) (now (next .entry)) t (w, now (path .entry)) ⌝ }
+    ensures on { λ r. ⌜ OnWay n (k + 1) r ⌝ }
+{
+    if w.node == t {
+        return w;
+    }
+    let at = w.node;
+    let i = link::wide(next[at]);
+    if m <= i {
+        return w;
+    }
+    let place = w.links;
+    path[place] = next[at];
+    Leg {
+        node: link::wide(link::word(links, i, link::TO)),
+        links: w.links + 1,
+        delay: w.delay + link::word(links, i, link::DELAY),
+        cost: w.cost + link::word(links, i, link::COST),
+    }
+}
+
+// The path from s to t. `attempt` calls it with the notes of a trace, and requires the rest itself.
+pub fn forward(
+    n: usize,
+    m: usize,
+    links: &[u32],
+    next: &[u32; 32],
+    path: &mut [u32],
+    s: usize,
+    t: usize,
+) -> Leg
+    requires { ⌜ Links n m (now links) ⌝ }
+    requires { ⌜ (31 ≤ length (now path)) × (s < n) ⌝ }
+    ensures is { λ r. ⌜ (r, now (path .exit)) ≡ forwarded (netOf n m (now (links .entry)) []) (now (next .entry)) s t (now (path .entry)) ⌝ }
+    ensures on { λ r. ⌜ OnWay n 31 r ⌝ }
+{
+    let mut w = Leg {
+        node: s,
+        links: 0,
+        delay: 0,
+        cost: 0,
+    };
+    for k in 0..n - 1 {
+        w = advance(n, m, links, next, path, t, k, w);
+    }
+    w
+}

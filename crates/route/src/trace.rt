@@ -1,0 +1,106 @@
+// The way back from (t, x) by the links kept in the table; at each node the last link out of it is noted, which
+// cuts the loops that links of no weight may leave.
+ghost use mathlib.Core.Path.{_≡_};
+ghost use Prim.Native.Nat.{_≤_, _<_};
+ghost use lib.ListN.{length};
+ghost use Rattle.network.specs.Cut.{noted};
+ghost use Rattle.search.specs.ebf.Table.{cell, linkAt};
+ghost use Rattle.search.specs.ebf.Trace.{stepBack, traced};
+ghost use Rattle.network.specs.Words.{Links};
+ghost use Rattle.search.specs.Solver.{unflagged, scaledOnly};
+ghost use Rattle.search.specs.ebf.OnTable.{OnTable};
+use crate::table::cell;
+use crate::table::cells;
+use links::link;
+use links::node_set;
+use search::Reduced;
+use search::Trail;
+
+// The link kept where the trail stands.
+fn kept_link(work: &[u32], p: Reduced, w: Trail) -> usize
+    requires { ⌜ 16384 ≤ length (now work) ⌝ }
+    requires { ⌜ p .x ≤ 248 ⌝ }
+    requires { ⌜ OnTable p w ⌝ }
+    ensures { λ r. ⌜ r ≡ linkAt (now (work .entry)) (cell (p .x) (w .node) (w .column)) ⌝ }
+{
+    let at = cell(p.x, w.node, w.column);
+    link::wide(work[2 * at + 1])
+}
+
+// Link `i` is noted at node `v` unless a later link of the walk left `v` already.
+fn note(next: &mut [u32; 32], left: u32, v: usize, i: usize)
+    requires { ⌜ v < 32 ⌝ }
+    requires { ⌜ i < 256 ⌝ }
+    ensures { λ _. ⌜ now (next .exit) ≡ noted left v i (now (next .entry)) ⌝ }
+{
+    if node_set::contains(left, v) {
+        return;
+    }
+    next[v] = i as u32;
+}
+
+// One link back, unless the trail has arrived. The two other tests keep any memory safe to read; on a table of
+// this search neither ever holds.
+fn step_back(
+    work: &[u32],
+    links: &[u32],
+    scaled: &[u32; 256],
+    p: Reduced,
+    s: usize,
+    next: &mut [u32; 32],
+    w: Trail,
+) -> Trail
+    requires { ⌜ Links (p .nodes) (p .links) (now links) ⌝ }
+    requires { ⌜ (p .x ≤ 248) × (16384 ≤ length (now work)) ⌝ }
+    requires { ⌜ OnTable p w ⌝ }
+    ensures is { λ r. ⌜ (r, now (next .exit)) ≡ stepBack (unflagged p (now (links .entry))) (scaledOnly p (now (scaled .entry))) (now (work .entry)) s (w, now (next .entry)) ⌝ }
+    ensures stays { λ r. ⌜ OnTable p r ⌝ }
+{
+    if w.node == s {
+        return w;
+    }
+    let i = kept_link(work, p, w);
+    if p.links <= i {
+        return w;
+    }
+    let step = link::wide(scaled[i]);
+    if w.column < step {
+        return w;
+    }
+    let tail = link::wide(link::word(links, i, link::FROM));
+    note(next, w.left, tail, i);
+    Trail {
+        node: tail,
+        column: w.column - step,
+        left: node_set::insert(w.left, tail),
+    }
+}
+
+// The notes of the trail from (t, x) back to s. `attempt` calls it on a finished table, and requires the rest itself.
+pub fn trace(
+    work: &[u32],
+    links: &[u32],
+    scaled: &[u32; 256],
+    p: Reduced,
+    s: usize,
+    t: usize,
+) -> [u32; 32]
+    requires { ⌜ Links (p .nodes) (p .links) (now links) ⌝ }
+    requires { ⌜ (p .x ≤ 248) × (16384 ≤ length (now work)) ⌝ }
+    requires { ⌜ t < 32 ⌝ }
+    ensures { λ r. ⌜ r ≡ traced (unflagged p (now (links .entry))) (scaledOnly p (now (scaled .entry))) (now (work .entry)) s t .1 ⌝ }
+{
+    let mut next: [u32; 32] = [0; 32];
+    let mut w = Trail {
+        node: t,
+        column: p.x,
+        left: 0,
+    };
+    for _ in 0..cells(p.nodes, p.x) {
+        if w.node == s {
+            return next;
+        }
+        w = step_back(work, links, scaled, p, s, &mut next, w);
+    }
+    next
+}

@@ -1,0 +1,8 @@
+pub mod ebf
+mod Distance
+mod Heuristic
+mod Alike
+pub mod Reductions
+pub mod Result
+pub mod Forward
+mod Unflagged

@@ -1,0 +1,16 @@
+pub mod Good
+pub mod Decided
+pub mod Cells
+pub mod Relaxed
+pub mod Sound
+pub mod Complete
+pub mod Trace
+pub mod Memory
+pub mod Solved
+pub mod Settled
+pub mod Rows
+pub mod Steps
+pub mod Turn
+pub mod Unflagged
+pub mod Outcomes
+pub mod Alike

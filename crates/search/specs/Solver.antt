@@ -1,0 +1,39 @@
+-- The problem that prepared weights describe, and what the solver's functions rely on.
+-- Assumes nothing.
+use Prim.Native.Nat.{ℕ, _≤_, _<_}
+use mathlib.Core.List.{List, []}
+use lib.ListN.{length, getD}
+use Rattle.network.specs.Net.{Net}
+use Rattle.network.specs.Problem.{Problem}
+use Rattle.network.specs.Words.{netOf, Links}
+use Rattle.search.specs.declared.Reduced.{Reduced}
+
+-- the kept weights and the scaled weights as columns with an entry for each link
+unfoldable pub problemOf : Reduced → List ℕ → List ℕ → Problem
+problemOf p kept scaled =
+    record { kept = λ i. getD kept i 0; bound = p .bound; scaledBy = λ i. getD scaled i 0; x = p .x }
+
+-- the network of a reduced problem
+abbrev pub netIn : Reduced → List ℕ → List ℕ → Net
+netIn p links usable = netOf (p .nodes) (p .links) links usable
+
+-- The network without flags and the problem without kept weights, for the contracts of functions that take no flags
+-- and no kept weights: neither a relaxation nor the trace asks which links are usable, and the trace asks for no kept
+-- weight. Any flags and any kept weights give the same: `relaxed-unflagged` and `traced-unflagged` in proofs/ebf/.
+abbrev pub unflagged : Reduced → List ℕ → Net
+unflagged p links = netOf (p .nodes) (p .links) links []
+
+abbrev pub scaledOnly : Reduced → List ℕ → Problem
+scaledOnly p scaled = problemOf p [] scaled
+
+-- the numbers, the link table and the kept weights are in their ranges
+pub record Prepared (p : Reduced) (links kept : List ℕ) : Type 0 where
+  pub table : Links (p .nodes) (p .links) links
+  pub x : p .x ≤ 248
+  pub bound : p .bound ≤ 31000000
+  pub weight : (i : ℕ) → i < p .links → getD kept i 0 ≤ 1000000
+
+-- the same, and a flag for each link
+pub record Sound (p : Reduced) (links usable kept : List ℕ) : Type 0 where
+  pub prepared : Prepared p links kept
+  pub flags : p .links ≤ length usable

@@ -1,0 +1,16 @@
+-- What the functions on a table rely on: its numbers are bounded, and a trail stands at one of its cells.
+-- Assumes nothing.
+use Prim.Native.Nat.{ℕ, _+_, _≤_, _<_}
+use mathlib.Core.List.{List}
+use Rattle.search.specs.declared.Trail.{Trail}
+use Rattle.search.specs.declared.Reduced.{Reduced}
+use Rattle.search.specs.ebf.Table.{cell, number}
+
+-- every number of the table is within the bound, or bound + 1 for ∞
+abbrev pub Bounded : Reduced → List ℕ → Type 0
+Bounded p l = (v k : ℕ) → v < p .nodes → k ≤ p .x → number l (cell (p .x) v k) ≤ p .bound + 1
+
+-- the trail is at a cell of the table
+pub record OnTable (p : Reduced) (w : Trail) : Type 0 where
+  pub node : w .node < 32
+  pub column : w .column ≤ p .x

@@ -1,2 +1,0 @@
-pub mod ReadCases
-pub mod Depends
