@@ -1,4 +1,4 @@
--- What the check of an area gives besides its verdict.
+-- What the check of an area gives besides its verdict: each link's free units, by which the calls go on.
 -- Assumes nothing.
 use Prim.Native.Nat.{ℕ}
 use mathlib.Core.Bool.{cond}

@@ -1,4 +1,4 @@
--- The numbers of held circuits, by their places.
+-- The numbers of held circuits, by their places: finding one, which admission and release do, and listing all.
 -- Assumes nothing.
 use Prim.Native.Nat.{ℕ}
 use mathlib.Core.Path.{_≡_}

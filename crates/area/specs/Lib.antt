@@ -1,5 +1,6 @@
--- The files of the area's definitions, in reading order: what its words say and what the calls ask of it (Station to Order),
--- what Load and the calls that only read answer, what a store moves, and what the functions of `station` rely on.
+-- The files of the area's definitions, in reading order: what its words say and what the calls ask of it (Station to
+-- Order), what Load and the calls that only read answer, what a store moves, and what the functions of `station` rely
+-- on.
 pub mod Station
 pub mod Books
 pub mod Formed

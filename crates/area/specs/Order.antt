@@ -1,4 +1,4 @@
--- Stations that differ at most in the order of their circuits.
+-- Stations that differ at most in the order of their circuits, which document 01 leaves open: they answer alike.
 -- Assumes nothing.
 use mathlib.Core.Path.{_≡_}
 use mathlib.Core.List.{List, _∷_}

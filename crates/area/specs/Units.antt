@@ -1,4 +1,4 @@
--- Taking a path's units from the free units of its links, link by link.
+-- Free units as the check of an area counts them: a path's units are taken from those of its links, link by link.
 -- Assumes nothing.
 use Prim.Native.Nat.{ℕ, _-_}
 use mathlib.Core.Bool.{Bool, true, cond, _&&_}

@@ -1,4 +1,4 @@
--- The flags of usable links.
+-- The flags by which `station` tells the search which links are usable.
 -- Assumes nothing.
 use Prim.Native.Nat.{ℕ}
 use mathlib.Core.Bool.{cond}

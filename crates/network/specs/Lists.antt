@@ -1,4 +1,4 @@
--- Small functions on lists that the other files and crates share.
+-- Small functions on lists that the other files and rooms share.
 -- Assumes nothing.
 use Prim.Native.Nat.{ℕ, zero, suc}
 use mathlib.Core.Path.{_≡_}

@@ -1,4 +1,4 @@
--- Scaled weights: formula 1 of the paper, and Theorem 2's condition without division.
+-- Scaled weights: formula 1 of the paper, and Theorem 2's condition without division, for any weight, x and bound.
 -- Assumes nothing.
 use Prim.Native.Nat.{ℕ, _+_, _-_, _*_, _/_, _≤_}
 

@@ -1,5 +1,5 @@
--- The files of the calls' definitions, in reading order: requests, replies, what each call replies, what that means; service
--- classes; what the search on an area relies on.
+-- The files of the calls' definitions, in reading order: requests, replies, what each call replies, what that means;
+-- service classes; what the search on an area relies on.
 pub mod Requests
 pub mod Replies
 pub mod Calls

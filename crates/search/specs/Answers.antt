@@ -1,4 +1,4 @@
--- What the search's answer and the path buffer say for each outcome.
+-- What the search's answer and the path buffer say for each outcome: the contract of `route::search` cites it.
 -- Assumes nothing.
 use Prim.Native.Nat.{ℕ}
 use mathlib.Core.List.{List, _++_}

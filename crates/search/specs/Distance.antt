@@ -1,4 +1,4 @@
--- The fewest links from s to t, by layers of the node set.
+-- The fewest links from s to t, by layers of the node set: x is measured by it before any problem is tried.
 -- Assumes nothing.
 use Prim.Native.Nat.{ℕ}
 use mathlib.Core.Bool.{Bool, cond, _&&_}

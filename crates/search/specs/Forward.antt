@@ -1,4 +1,4 @@
--- The pass from s to t along the noted links: the path's words and its own sums.
+-- The pass from s to t along the links that a trace noted: the path's words and its own sums. It knows no table.
 -- Assumes nothing.
 use Prim.Native.Nat.{ℕ, _+_, _*_, _-_, _≤_, _<_}
 use mathlib.Core.Bool.{cond, _||_}

@@ -1,4 +1,4 @@
--- The problem that prepared weights describe, and what the solver's functions rely on.
+-- The problem that columns of prepared weights describe, and what the functions that solve it rely on.
 -- Assumes nothing.
 use Prim.Native.Nat.{ℕ, _≤_, _<_}
 use mathlib.Core.List.{List, []}

@@ -1,4 +1,4 @@
--- What the functions of one relaxation tell each other.
+-- What the functions of one relaxation tell each other: a link as they read it, and whether another round is due.
 -- Assumes nothing.
 use Prim.Native.Nat.{ℕ, _≤_, _<_}
 use mathlib.Core.Path.{_≡_}
