@@ -7,8 +7,10 @@ use lib.ListN.{take}
 use Rattle.network.specs.declared.Grant.{Grant}
 use Rattle.area.specs.declared.Loading.{Loading}
 use Rattle.area.specs.declared.Loading.the-variants as loading
-use Rattle.rules.specs.declared.Answer.{Answer}
-use Rattle.rules.specs.declared.Answer.the-variants as answer
+use Rattle.rules.specs.declared.RequestAnswer.{RequestAnswer}
+use Rattle.rules.specs.declared.RequestAnswer.the-variants as answer
+use Rattle.rules.specs.declared.ReleaseAnswer.{ReleaseAnswer}
+use Rattle.rules.specs.declared.ReleaseAnswer.the-variants as release
 use Rattle.area.specs.declared.Reading.{Reading}
 use Rattle.area.specs.declared.Reading.the-variants as reading
 use Rattle.text_format.specs.Fields.{fields}
@@ -31,12 +33,17 @@ unfoldable pub grantText : Grant → List ℕ → List ℕ
 unfolding fields lineText
 grantText g buffer = fields (g .problem ∷ g .delay ∷ g .cost ∷ []) ++ pathText (g .links) buffer
 
--- a release: a space and `released`
-unfoldable pub answerText : Answer → List ℕ → List ℕ
+-- a quote or an admission
+unfoldable pub answerText : RequestAnswer → List ℕ → List ℕ
 unfolding lineText grantText
 answerText (answer.Refused k) buffer = refusedText k
 answerText (answer.Granted g) buffer = grantText g buffer
-answerText answer.Released buffer = 32 ∷ 114 ∷ 101 ∷ 108 ∷ 101 ∷ 97 ∷ 115 ∷ 101 ∷ 100 ∷ 10 ∷ []
+
+-- a release that is not refused: a space and `released`
+unfoldable pub releaseText : ReleaseAnswer → List ℕ
+unfolding lineText
+releaseText (release.Refused k) = refusedText k
+releaseText release.Released = 32 ∷ 114 ∷ 101 ∷ 108 ∷ 101 ∷ 97 ∷ 115 ∷ 101 ∷ 100 ∷ 10 ∷ []
 
 unfoldable pub readingText : Reading → List ℕ
 unfolding lineText

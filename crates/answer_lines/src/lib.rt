@@ -5,12 +5,13 @@ ghost use mathlib.Core.Path.{_≡_};
 ghost use Prim.Native.Nat.{_+_, _*_, _≤_};
 ghost use lib.ListN.{length, take};
 ghost use lib.Seq.{sets};
-ghost use Rattle.answer_lines.specs.Answers.{lineText, refusedText, pathText, grantText, answerText, readingText, loadingText};
+ghost use Rattle.answer_lines.specs.Answers.{lineText, refusedText, pathText, grantText, answerText, releaseText, readingText, loadingText};
 use area::Loading;
 use area::Reading;
 use links::link;
 use network::Grant;
-use rules::Answer;
+use rules::ReleaseAnswer;
+use rules::RequestAnswer;
 
 // A field for each of these numbers, and the newline.
 fn put_line(text: &mut [u8], at: usize, numbers: &[u32]) -> usize
@@ -69,18 +70,30 @@ fn put_granted(text: &mut [u8], at: usize, g: Grant, path: &[u32]) -> usize
     put_path(text, end, path, g.links)
 }
 
-// What a call answered, with the words of its path buffer. The programs lend a text of 375 bytes and a path buffer of at
-// most 31 words.
-pub fn put_answer(text: &mut [u8], at: usize, answer: Answer, path: &[u32]) -> usize
+// What a quote or an admission answered, with the words of its path buffer. The programs lend a text of 375 bytes and a
+// path buffer of at most 31 words.
+pub fn put_answer(text: &mut [u8], at: usize, answer: RequestAnswer, path: &[u32]) -> usize
     requires { ⌜ at + 11 * length (now path) + 34 ≤ length (now text) ⌝ }
     ensures end { λ r. ⌜ r ≡ at + length (answerText answer (now (path .entry))) ⌝ }
     ensures most { λ r. ⌜ r ≤ at + 11 * length (now (path .entry)) + 34 ⌝ }
     ensures text { λ _. ⌜ now (text .exit) ≡ sets (now (text .entry)) at (answerText answer (now (path .entry))) ⌝ }
 {
     match answer {
-        Answer::Refused(k) => put_refused(text, at, k),
-        Answer::Granted(g) => put_granted(text, at, g, path),
-        Answer::Released => text::put(text, at, b" released\n"),
+        RequestAnswer::Refused(k) => put_refused(text, at, k),
+        RequestAnswer::Granted(g) => put_granted(text, at, g, path),
+    }
+}
+
+// What a release answered. The programs lend room for two fields and the newline.
+pub fn put_release(text: &mut [u8], at: usize, answer: ReleaseAnswer) -> usize
+    requires { ⌜ at + 23 ≤ length (now text) ⌝ }
+    ensures end { λ r. ⌜ r ≡ at + length (releaseText answer) ⌝ }
+    ensures most { λ r. ⌜ r ≤ at + 23 ⌝ }
+    ensures text { λ _. ⌜ now (text .exit) ≡ sets (now (text .entry)) at (releaseText answer) ⌝ }
+{
+    match answer {
+        ReleaseAnswer::Refused(k) => put_refused(text, at, k),
+        ReleaseAnswer::Released => text::put(text, at, b" released\n"),
     }
 }
 

@@ -1,28 +1,115 @@
--- A list of checks: the first that fails refuses, whatever stands behind it, and an answer that is no refusal comes past
--- every one of them.
+-- A list of checks: the first that fails refuses, whatever stands behind it; an answer that is no refusal comes past every
+-- one of them; and checks that test rules refuse as the rules do, by the first that applies.
 -- Assumes nothing.
-use Prim.Native.Nat.{ℕ}
-use mathlib.Core.Path.{_≡_, refl}
-use mathlib.Core.Bool.{true, false}
-use mathlib.Core.List.{List, [], _∷_, _++_}
+use Prim.Native.Nat.{ℕ, zero, suc, _≤_, _<_}
+use mathlib.Core.Path.{_≡_, refl, sym, ap, _∙_}
+use mathlib.Core.Bool.{Bool, true, false, _&&_, true≢false}
+use mathlib.Core.List.{List, [], _∷_, _++_, map}
+use mathlib.Core.Logic.{inl, inr}
+use native.Mathlib.Omega.{arith}
+use lib.Dec.{ltb, leb}
+use borrow.Author.Tests.{leb-true, leb-false, ltb-true, ltb-false}
+use Rattle.network.specs.Lists.{All, memb}
 use Rattle.network.proofs.Tests.{by-bool, fst-of, snd-of}
-use Rattle.area.specs.Checks.{Check, checked, firstFailing, pass}
+use Rattle.area.specs.Refusals.{Rule, _when_, FirstApplies, Passes, Reply, refuses, grants, Answered}
+use Rattle.area.specs.Checks.{Check, _unless_, firstFailing, unlessRefused, checked}
 
+-- ---- the first that fails
 -- the checks `cs` pass and c, which comes behind them, fails
-module _ (c : Check) (more : List Check) (fails : c .passes ≡ false) where
-  pub first-refuses : {A : Type 0} (refuse : ℕ → A) (cs : List Check) (a : A) → pass cs ≡ true
-      → checked refuse (cs ++ c ∷ more) a ≡ refuse (c .number)
-  first-refuses refuse [] a ok = rw fails refl
-  first-refuses refuse (b ∷ cs) a ok = rw (fst-of (b .passes) _ ok) (first-refuses refuse cs a (snd-of (b .passes) _ ok))
+pub first-told : (c : Check) (more : List Check) → c .passes ≡ false
+    → (cs : List Check) → All (λ (b : Check). b .passes ≡ true) cs
+    → firstFailing (cs ++ c ∷ more) ≡ c .number
+first-told c more fails [] ok = rw fails refl
+first-told c more fails (b ∷ cs) ok = rw (ok .0) (first-told c more fails cs (ok .1))
 
-  -- the same of the number alone
-  pub first-told : (cs : List Check) → pass cs ≡ true → firstFailing (cs ++ c ∷ more) ≡ c .number
-  first-told [] ok = rw fails refl
-  first-told (b ∷ cs) ok = rw (fst-of (b .passes) _ ok) (first-told cs (snd-of (b .passes) _ ok))
+-- every check's number is over 0, as document 01's are
+abbrev pub numbered : List Check → Bool
+numbered [] = true
+numbered (c ∷ cs) = ltb 0 (c .number) && numbered cs
+
+-- where none fails, every check passes
+pub each-passes : (cs : List Check) → numbered cs ≡ true → firstFailing cs ≡ 0 → All (λ (c : Check). c .passes ≡ true) cs
+each-passes [] over e = tt
+each-passes (c ∷ cs) over e =
+    by-bool (c .passes)
+    (λ q. (q, each-passes cs (snd-of (ltb 0 (c .number)) _ over) (rw q at e)))
+    (λ q. absurd (omega (arith, ltb-true 0 (c .number) (fst-of (ltb 0 (c .number)) _ over), rw q at e)))
 
 -- an answer that is no refusal comes past every check
 pub all-pass : {A : Type 0} (refuse : ℕ → A) (cs : List Check) (a b : A) → ((k : ℕ) → refuse k ≡ b → ⊥) → checked refuse cs a ≡ b
-    → (pass cs ≡ true) × (a ≡ b)
-all-pass refuse [] a b other e = (refl, e)
-all-pass refuse (c ∷ cs) a b other e =
-    by-bool (c .passes) (λ q. rw q (all-pass refuse cs a b other (rw q at e))) (λ q. absurd (other (c .number) (rw q at e)))
+    → (firstFailing cs ≡ 0) × (a ≡ b)
+all-pass refuse cs a b other e = go (firstFailing cs) e
+  where
+    go : (n : ℕ) → unlessRefused refuse a n ≡ b → (n ≡ 0) × (a ≡ b)
+    go zero e = (refl, e)
+    go (suc k) e = absurd (other (suc k) e)
+
+-- what is made of an answer is made of its refusals and of what comes past the checks
+pub checked-made : {A B : Type 0} (f : A → B) (refuse : ℕ → A) (cs : List Check) (a : A)
+    → checked (λ k. f (refuse k)) cs (f a) ≡ f (checked refuse cs a)
+checked-made f refuse cs a = go (firstFailing cs)
+  where
+    go : (n : ℕ) → unlessRefused (λ k. f (refuse k)) (f a) n ≡ f (unlessRefused refuse a n)
+    go zero = refl
+    go (suc k) = refl
+
+-- ---- checks that test rules
+-- a check has its rule's number and fails just where the rule applies
+pub record Tests (c : Check) (r : Rule) : Type 0 where
+  pub over : 0 < c .number
+  pub number : c .number ≡ r .number
+  pub passes : c .passes ≡ true → r .applies → ⊥
+  pub fails : c .passes ≡ false → r .applies
+
+-- each of a list tests the rule at its place
+abbrev pub Tested : List Check → List Rule → Type 0
+Tested [] [] = Unit
+Tested [] (r ∷ rs) = ⊥
+Tested (c ∷ cs) [] = ⊥
+Tested (c ∷ cs) (r ∷ rs) = Tests c r × Tested cs rs
+
+module _ (k : ℕ) (over : 0 < k) where
+  -- a rule that applies where a statement does not hold, with the statement's test
+  pub tests-not : {P : Type 0} (b : Bool) → (b ≡ true → P) → (P → b ≡ true) → Tests (k unless b) (k when (P → ⊥))
+  tests-not b says test =
+      record {
+        over = over;
+        number = refl;
+        passes = λ e lacks. lacks (says e);
+        fails = λ e h. true≢false (sym (test h) ∙ e);
+      }
+
+  -- one that applies where a number is too small
+  pub tests-short : (least n : ℕ) → Tests (k unless leb least n) (k when n < least)
+  tests-short least n =
+      record { over = over; number = refl; passes = λ e low. omega (arith, leb-true least n e); fails = leb-false least n }
+
+  -- one that applies where a number is too great
+  pub tests-full : (n most : ℕ) → Tests (k unless ltb n most) (k when most ≤ n)
+  tests-full n most =
+      record { over = over; number = refl; passes = λ e high. omega (arith, ltb-true n most e); fails = ltb-false n most }
+
+  -- one that applies where a test is false
+  pub tests-false : (b : Bool) → Tests (k unless b) (k when b ≡ false)
+  tests-false b = record { over = over; number = refl; passes = λ e f. true≢false (sym e ∙ f); fails = λ e. e }
+
+module _ {A : Type 0} (G : A → Type 0) where
+  -- a rule that does not apply changes nothing
+  pub unapplied : (r : Rule) (rs : List Rule) → (r .applies → ⊥) → (a : Reply A) → Answered G rs a → Answered G (r ∷ rs) a
+  unapplied r rs n (refuses k) h = inr (λ p. absurd (n p), h)
+  unapplied r rs n (grants a) h = ((λ p. absurd (n p), h .0), h .1)
+
+  first-applies : (r : Rule) (rs : List Rule) (a : Reply A) (n : ℕ) → 0 < n → n ≡ r .number → r .applies
+      → Answered G (r ∷ rs) (unlessRefused refuses a n)
+  first-applies r rs a zero over e h = absurd (omega (arith, over))
+  first-applies r rs a (suc n) over e h = inl (h, e)
+
+  -- checks that test rules refuse as the rules do; past them the rules that are left decide
+  pub checked-answers : (cs : List Check) (rs : List Rule) → Tested cs rs → (qs : List Rule) (a : Reply A) → (Passes rs → Answered G qs a)
+      → Answered G (rs ++ qs) (checked refuses cs a)
+  checked-answers [] [] t qs a on = on tt
+  checked-answers (c ∷ cs) (r ∷ rs) t qs a on =
+      by-bool (c .passes)
+      (λ q.
+      rw q (unapplied r (rs ++ qs) (t .0 .passes q) (checked refuses cs a) (checked-answers cs rs (t .1) qs a λ p. on (λ h. absurd (t .0 .passes q h), p))))
+      (λ q. rw q (first-applies r (rs ++ qs) a (c .number) (t .0 .over) (t .0 .number) (t .0 .fails q)))

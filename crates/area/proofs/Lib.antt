@@ -10,6 +10,7 @@ pub mod FreeUnits
 pub mod Keeps
 pub mod Order
 pub mod Stores
+pub mod Refusals
 pub mod Checks
 pub mod ReadCases
 pub mod Depends

@@ -2,21 +2,22 @@
 -- links keeps its contents.
 -- Assumes nothing.
 use mathlib.Core.Path.{_≡_, refl, sym, ap, _∙_, subst}
-use mathlib.Core.Bool.{true, _&&_}
+use mathlib.Core.Bool.{true}
 use mathlib.Core.List.{List, [], _∷_, _++_}
 use Prim.Native.Nat.{ℕ, _+_, _*_, _-_, _/_, _%_, _≤_}
 use native.Mathlib.Omega.{arith}
-use lib.Dec.{leb, eqb}
+use lib.Dec.{eqb}
 use lib.ListN.{length, getD, drop, length-append, length-drop, List·getD-append}
 use lib.Seq.{getD-append-add, getD-drop}
 use borrow.Author.Tests.{leb-true, eqb-true}
+use Rattle.network.specs.Lists.{All}
 use Rattle.network.proofs.Tests.{fst-of, snd-of, zero-one}
 use Rattle.area.specs.Station.{wordsAt, station, tableIn}
-use Rattle.area.specs.Formed.{Sound, WellFormed, inRange, linksFit}
-use Rattle.area.specs.Checks.{pass}
+use Rattle.area.specs.Formed.{Sound, WellFormed}
+use Rattle.area.specs.Checks.{Check, firstFailing}
 use Rattle.area.specs.declared.Loading.the-variants.{Refused, Loaded}
 use Rattle.area.specs.Load.{tableOf, fresh, loadChecks, loadAnswer, loaded, areaLoaded}
-use Rattle.area.proofs.Checks.{all-pass}
+use Rattle.area.proofs.Checks.{each-passes, all-pass}
 use Rattle.area.proofs.Formed.{range-says, links-says}
 use Rattle.area.proofs.WordsAt.{words-list}
 
@@ -38,31 +39,22 @@ module _ (w : List ℕ) (n : ℕ) (links : List ℕ) where
   unfolding loaded
   loaded-long fits = simp (length-append, length-drop) (omega arith)
 
-  module _ (ok : pass (loadChecks w n links) ≡ true) where
+  module _ (ok : firstFailing (loadChecks w n links) ≡ 0) where
     -- what the checks say, one by one
-    long : 3459 ≤ length w
-    long = leb-true 3459 (length w) (fst-of (leb 3459 (length w)) _ ok)
+    each : All (λ (c : Check). c .passes ≡ true) (loadChecks w n links)
+    each = each-passes (loadChecks w n links) refl ok
 
-    after-first : (inRange 2 32 n && ((eqb (length links % 5) 0 && leb (length links) 1280) && (linksFit (tableOf n links) && true))) ≡ true
-    after-first = snd-of (leb 3459 (length w)) _ ok
+    long : 3459 ≤ length w
+    long = leb-true 3459 (length w) (each .0)
 
     nodes : (2 ≤ n) × (n ≤ 32)
-    nodes = range-says 2 32 n (fst-of (inRange 2 32 n) _ after-first)
-
-    after-second : ((eqb (length links % 5) 0 && leb (length links) 1280) && (linksFit (tableOf n links) && true)) ≡ true
-    after-second = snd-of (inRange 2 32 n) _ after-first
-
-    words : (eqb (length links % 5) 0 && leb (length links) 1280) ≡ true
-    words = fst-of (eqb (length links % 5) 0 && leb (length links) 1280) _ after-second
+    nodes = range-says 2 32 n (each .1 .0)
 
     fives : 5 * (length links / 5) ≡ length links
-    fives = omega (arith, eqb-true (length links % 5) 0 (fst-of (eqb (length links % 5) 0) _ words))
+    fives = omega (arith, eqb-true (length links % 5) 0 (fst-of (eqb (length links % 5) 0) _ (each .1 .1 .0)))
 
     few : length links ≤ 1280
-    few = leb-true (length links) 1280 (snd-of (eqb (length links % 5) 0) _ words)
-
-    links-fit : linksFit (tableOf n links) ≡ true
-    links-fit = fst-of (linksFit (tableOf n links)) _ (snd-of (eqb (length links % 5) 0 && leb (length links) 1280) _ after-second)
+    few = leb-true (length links) 1280 (snd-of (eqb (length links % 5) 0) _ (each .1 .1 .0))
 
     -- the area is read as the table that was given, with no circuit
     pub loaded-station : station (loaded w n links) ≡ fresh n links
@@ -84,7 +76,7 @@ module _ (w : List ℕ) (n : ℕ) (links : List ℕ) where
             nodes-least = nodes .0;
             nodes-most = nodes .1;
             links-most = omega (arith, few, fives);
-            each = links-says (tableOf n links) links-fit;
+            each = links-says (tableOf n links) (each .1 .1 .1 .0);
           };
           few = omega arith;
           each = tt;
@@ -101,7 +93,7 @@ module _ (w : List ℕ) (n : ℕ) (links : List ℕ) where
         }
 
   -- ---- by Load's answer, and the area that it leaves
-  accepted-passes : loadAnswer w n links ≡ Loaded → pass (loadChecks w n links) ≡ true
+  accepted-passes : loadAnswer w n links ≡ Loaded → firstFailing (loadChecks w n links) ≡ 0
   unfolding loadAnswer
   accepted-passes e = all-pass Refused (loadChecks w n links) Loaded Loaded refusal e .0
     where

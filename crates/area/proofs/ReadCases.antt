@@ -2,20 +2,26 @@
 -- which make its reads safe.
 -- Assumes nothing.
 use Prim.Native.Nat.{ℕ, _≤_, _<_}
-use mathlib.Core.Path.{_≡_, refl}
+use mathlib.Core.Path.{_≡_, refl, sym, ap, _∙_}
 use mathlib.Core.Bool.{true, false}
-use mathlib.Core.List.{List, _++_}
+use mathlib.Core.List.{List, [], _++_}
 use native.Mathlib.Omega.{arith}
 use lib.ListN.{length, getD, drop}
 use borrow.Author.Tests.{le-leb, lt-leb, le-ltb, lt-ltb}
+use Rattle.area.specs.declared.Reading.{Reading}
 use Rattle.area.specs.declared.Reading.the-variants.{Refused, Value}
-use Rattle.area.specs.Station.{station, tableIn}
-use Rattle.area.specs.Held.{numbersFrom}
+use Rattle.area.specs.Station.{heldIn, station, tableIn}
+use Rattle.area.specs.Held.{numberAt, numbersFrom, ListsHeld}
 use Rattle.area.specs.Formed.{WellFormed, wellFormed}
-use Rattle.area.specs.Reads.{listAnswer, listed, Lists, freeAnswer}
+use Rattle.area.specs.Refusals.{Reply, refuses, grants, Answered}
+use Rattle.area.specs.Checks.{checked}
+use Rattle.area.specs.Reads.{listChecks, listAnswer, listed, countOf, bufferAfter, listRules, ListMeans, freeAnswer}
 use Rattle.area.specs.FreeIn.{freeIn}
+use Rattle.network.proofs.Tests.{unfailing}
+use Rattle.network.proofs.Stored.{from-length}
+use Rattle.area.proofs.Checks.{checked-made, Tested, tests-not, tests-short, checked-answers}
 use Rattle.area.proofs.Found.{held-length, listing-means}
-use Rattle.area.proofs.Formed.{formed-says}
+use Rattle.area.proofs.Formed.{formed-says, formed-test}
 
 -- the counts that the words 1 and 2 hold
 pub links-few : (w : List ℕ) → WellFormed w → getD w 1 0 ≤ 256
@@ -38,24 +44,70 @@ module _ (w : List ℕ) (formed : wellFormed w ≡ true) where
   formed-held = held-few w (formed-says w formed)
 
 -- ---- listing, into a buffer l
-pub lists : (w : List ℕ) → Lists w
-unfolding station
-lists w formed = listing-means w (getD w 2 0) (formed-says w formed .sound .differ)
-
 module _ (w l : List ℕ) where
-  pub list-unfit : wellFormed w ≡ false → (Refused 5 ≡ listAnswer w (length l)) × ((l ≡ listed w l) × Lists w)
+  abbrev listReply : Reply (List ℕ)
+  listReply = checked refuses (listChecks w (length l)) (grants (numbersFrom w 0 (heldIn w)))
+
+  checks-tested : Tested (listChecks w (length l)) (listRules w (length l))
+  unfolding station
+  checks-tested = (
+    tests-not 5 (omega arith) (wellFormed w) (formed-says w) (formed-test w),
+    (rw (held-length w (heldIn w)) (tests-short 14 (omega arith) (heldIn w) (length l)), tt),
+  )
+
+  -- past its checks it grants the held circuits' numbers
+  reply-allowed : Answered (ListsHeld (station w .held)) (listRules w (length l)) listReply
+  unfolding station
+  reply-allowed =
+      checked-answers (ListsHeld (station w .held)) (listChecks w (length l)) (listRules w (length l)) checks-tested []
+      (grants (numbersFrom w 0 (heldIn w)))
+      (λ p. (tt, listing-means w (heldIn w) (unfailing (wellFormed w) (formed-says w) (formed-test w) (p .0) .sound .differ)))
+
+  -- what the contract says of an answer x and a buffer l'
+  abbrev pub ListedAs : Reading → List ℕ → Type 0
+  ListedAs x l' = (x ≡ listAnswer w (length l)) × ((l' ≡ listed w l) × ListMeans w l x l')
+
+  -- it holds of the call's own
+  pub listed-as : (x : Reading) → x ≡ listAnswer w (length l) → (l' : List ℕ) → l' ≡ listed w l → ListedAs x l'
   unfolding listAnswer listed
-  list-unfit e = (rw e refl, (rw e refl, lists w))
+  listed-as x answers l' holds = (
+    answers,
+    (
+      holds,
+      record {
+        reply = listReply;
+        allowed = reply-allowed;
+        answer =
+            answers
+            ∙ ap (λ (h : ℕ). checked Refused (listChecks w (length l)) (Value h)) (sym count)
+            ∙ checked-made countOf refuses (listChecks w (length l)) (grants (numbersFrom w 0 (heldIn w)));
+        buffer =
+            holds
+            ∙ ap (λ (h : ℕ). checked (λ _. l) (listChecks w (length l)) (numbersFrom w 0 (heldIn w) ++ drop h l)) (sym count)
+            ∙ checked-made (λ (a : Reply (List ℕ)). bufferAfter a l) refuses (listChecks w (length l)) (grants (numbersFrom w 0 (heldIn w)));
+      },
+    ),
+  )
+    where
+      count : length (numbersFrom w 0 (heldIn w)) ≡ heldIn w
+      count = from-length (numberAt w) 0 (heldIn w)
+
+  pub list-unfit : wellFormed w ≡ false → ListedAs (Refused 5) l
+  unfolding listAnswer listed
+  list-unfit e = listed-as (Refused 5) (rw e refl) l (rw e refl)
 
   module _ (formed : wellFormed w ≡ true) where
-    pub list-short : length l < getD w 2 0 → (Refused 14 ≡ listAnswer w (length l)) × ((l ≡ listed w l) × Lists w)
+    pub list-short : length l < getD w 2 0 → ListedAs (Refused 14) l
     unfolding listAnswer listed
-    list-short h = (rw (formed, lt-leb (getD w 2 0) (length l) h) refl, (rw (formed, lt-leb (getD w 2 0) (length l) h) refl, lists w))
+    list-short h =
+        listed-as (Refused 14) (rw (formed, lt-leb (getD w 2 0) (length l) h) refl) l
+        (rw (formed, lt-leb (getD w 2 0) (length l) h) refl)
 
-    pub list-all : getD w 2 0 ≤ length l
-        → (Value (getD w 2 0) ≡ listAnswer w (length l)) × (numbersFrom w 0 (getD w 2 0) ++ drop (getD w 2 0) l ≡ listed w l)
+    pub list-all : getD w 2 0 ≤ length l → (l' : List ℕ) → l' ≡ numbersFrom w 0 (getD w 2 0) ++ drop (getD w 2 0) l → ListedAs (Value (getD w 2 0)) l'
     unfolding listAnswer listed
-    list-all h = (rw (formed, le-leb (getD w 2 0) (length l) h) refl, rw (formed, le-leb (getD w 2 0) (length l) h) refl)
+    list-all h l' holds =
+        listed-as (Value (getD w 2 0)) (rw (formed, le-leb (getD w 2 0) (length l) h) refl) l'
+        (holds ∙ rw (formed, le-leb (getD w 2 0) (length l) h) refl)
 
 -- ---- free units of link i
 module _ (w : List ℕ) (i : ℕ) where

@@ -8,7 +8,8 @@ use lib.Dec.{leb}
 use lib.ListN.{length}
 use Rattle.network.specs.Lists.{memb}
 use Rattle.network.specs.Net.{Net}
-use Rattle.area.specs.Station.{Table, Circuit, Station, tailOf, headOf, delayOf, costOf, capacityOf}
+use Rattle.network.specs.Words.{netBy}
+use Rattle.area.specs.Station.{Table, Circuit, Station, capacityOf}
 
 -- the units that a circuit takes of a link
 abbrev pub unitsOn : Circuit → ℕ → ℕ
@@ -39,28 +40,14 @@ pub record Books : Type 0 where
 unfoldable pub books : Station → Books
 books s = record { table = s .table; free = free s; holds = holds (s .held); count = length (s .held) }
 
+-- a table's network, of which those links are usable that `usable` says
+abbrev pub tableNet : Table → (ℕ → Bool) → Net
+tableNet t usable = netBy (t .nodes) (t .links) (t .words) usable
+
 -- the network that a request of b units sees: a link is usable if its free units are at least b
 unfoldable pub net : Books → ℕ → Net
-net o b =
-    record {
-      nodes = o .table .nodes;
-      links = o .table .links;
-      tail = tailOf (o .table);
-      head = headOf (o .table);
-      usable = λ i. leb b (o .free i);
-      delay = delayOf (o .table);
-      cost = costOf (o .table);
-    }
+net o b = tableNet (o .table) (λ i. leb b (o .free i))
 
 -- the whole table as a network
 unfoldable pub whole : Table → Net
-whole t =
-    record {
-      nodes = t .nodes;
-      links = t .links;
-      tail = tailOf t;
-      head = headOf t;
-      usable = λ i. true;
-      delay = delayOf t;
-      cost = costOf t;
-    }
+whole t = tableNet t (λ i. true)

@@ -5,6 +5,7 @@ pub mod Station
 pub mod Books
 pub mod Formed
 pub mod Order
+pub mod Refusals
 pub mod Checks
 pub mod Load
 pub mod Held

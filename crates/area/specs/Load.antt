@@ -1,7 +1,7 @@
 -- Load: what it answers, and the area after.
 -- Assumes nothing.
 use Prim.Native.Nat.{ℕ, _+_, _/_, _%_}
-use mathlib.Core.Bool.{cond, _&&_}
+use mathlib.Core.Bool.{_&&_}
 use mathlib.Core.List.{List, [], _∷_, _++_}
 use lib.Dec.{leb, eqb}
 use lib.ListN.{length, drop}
@@ -9,7 +9,7 @@ use Rattle.area.specs.declared.Loading.{Loading}
 use Rattle.area.specs.declared.Loading.the-variants.{Refused, Loaded}
 use Rattle.area.specs.Station.{Table, Station}
 use Rattle.area.specs.Formed.{inRange, linksFit}
-use Rattle.area.specs.Checks.{Check, _unless_, checked, pass}
+use Rattle.area.specs.Checks.{Check, _unless_, checked}
 
 -- the table that n and the link words describe
 abbrev pub tableOf : ℕ → List ℕ → Table
@@ -36,6 +36,7 @@ loadAnswer w n links = checked Refused (loadChecks w n links) Loaded
 unfoldable pub loaded : List ℕ → ℕ → List ℕ → List ℕ
 loaded w n links = n ∷ length links / 5 ∷ 0 ∷ links ++ drop (3 + length links) w
 
+-- a refusal changes no word
 unfoldable pub areaLoaded : List ℕ → ℕ → List ℕ → List ℕ
 unfolding loaded linksFit
-areaLoaded w n links = cond (pass (loadChecks w n links)) (loaded w n links) w
+areaLoaded w n links = checked (λ _. w) (loadChecks w n links) (loaded w n links)

@@ -2,22 +2,23 @@
 // here past their checks.
 ghost use mathlib.Core.Path.{_≡_};
 ghost use Rattle.rules.specs.Replies.{told, answerOf, pathAfter};
-ghost use Rattle.rules.specs.Calls.{booksIn, sought};
+ghost use Rattle.rules.specs.Calls.{sought};
+ghost use Rattle.rules.specs.Meaning.{booksIn};
 ghost use Rattle.rules.specs.Ready.{Seekable};
 use links::link;
 use network::Request;
-use rules::Answer;
+use rules::RequestAnswer;
 use station::layout;
 use station::usable::usable;
 
 // The search's answer with document 01's numbers.
-fn numbered(found: network::Answer) -> Answer
+fn numbered(found: network::Answer) -> RequestAnswer
     ensures { λ a. ⌜ a ≡ told found ⌝ }
 {
     match found {
-        network::Answer::NoPath => Answer::Refused(9),
-        network::Answer::NoSolution => Answer::Refused(10),
-        network::Answer::Granted(g) => Answer::Granted(g),
+        network::Answer::NoPath => RequestAnswer::Refused(9),
+        network::Answer::NoSolution => RequestAnswer::Refused(10),
+        network::Answer::Granted(g) => RequestAnswer::Granted(g),
     }
 }
 
@@ -29,7 +30,7 @@ pub fn seek(
     work: &mut [u32],
     path: &mut [u32],
     r: Request,
-) -> Answer
+) -> RequestAnswer
     requires { ⌜ Seekable (now area) (now free) (now work) (now path) r ⌝ }
     ensures answer { λ a. ⌜ a ≡ answerOf (sought (booksIn (now (area .entry))) r) ⌝ }
     ensures path { λ _. ⌜ now (path .exit) ≡ pathAfter (sought (booksIn (now (area .entry))) r) (now (path .entry)) ⌝ }

@@ -16,12 +16,13 @@ use Rattle.search.specs.ebf.Trace.{trailBack, stepBack, traced}
 use Rattle.search.specs.ebf.Solve.{pathIn, answerIn, solveIn, solve}
 use Rattle.search.specs.Distance.{spread, layer, distance}
 use Rattle.search.specs.Heuristic.{tried, search}
+use Rattle.search.specs.Result.{outcome}
 use Rattle.area.specs.Station.{tableIn, circuitOf}
 use Rattle.area.specs.Order.{Same, next}
 use Rattle.area.specs.declared.Loading.the-variants.{Loaded}
 use Rattle.area.specs.Load.{loadAnswer, areaLoaded}
 use Rattle.rules.specs.Calls.{quote, admission, booked, release, cleared}
-use Rattle.ledger.specs.History.{answers, given, bookings, remaining}
+use Rattle.ledger.specs.History.{answers, pathGiven, releaseGiven, bookings, remaining}
 use Rattle.ledger.proofs.Striking.{none-struck, all-remain}
 use Rattle.ledger.proofs.Demands.{third-demand}
 use Rattle.cases.specs.Document01.{linksA, blank}
@@ -31,7 +32,7 @@ use Rattle.call_list.proofs.Runs.{load-accepts, struck-calls, endOf, ru
 
 -- ---- from an area of zeros
 computed : (answers (areaLoaded blank 4 linksA) (calls false) ≡ expected) × (bookings (endOf false blank) ≡ held)
-unfolding calls rows given areaLoaded quote admission booked release cleared tableIn circuitOf search tried solve solveIn answerIn pathIn ebf rounds round column offered relaxed improved initialised filled cell cells traced stepBack trailBack noted follow distance layer spread problemOne problemTwo scaled iter first
+unfolding calls rows pathGiven releaseGiven areaLoaded quote admission booked release cleared tableIn circuitOf outcome search tried solve solveIn answerIn pathIn ebf rounds round column offered relaxed improved initialised filled cell cells traced stepBack trailBack noted follow distance layer spread problemOne problemTwo scaled iter first
 computed = (refl, refl)
 
 blank-accepted : loadAnswer blank 4 linksA ≡ Loaded

@@ -1,55 +1,47 @@
 -- What a call of the list leaves, one law for each return of the functions of `history` that make it.
 -- Assumes nothing.
 use Prim.Native.Nat.{ℕ, suc, _+_, _-_, _≤_, _<_}
-use mathlib.Core.Path.{_≡_, refl, sym, ap, _∙_}
+use mathlib.Core.Path.{_≡_, refl, sym, ap, ap₂, _∙_}
 use mathlib.Core.Bool.{Bool, true, false, _&&_}
 use mathlib.Core.List.{List, [], _∷_, _++_}
 use native.Mathlib.Omega.{arith}
 use borrow.Author.Tests.{eq-eqb, ne-eqb}
 use lib.ListN.{length, getD, take, replicate}
 use Rattle.network.specs.declared.Request.{Request}
-use Rattle.network.proofs.Tests.{by-bool}
-use Rattle.area.specs.Formed.{wellFormed}
-use Rattle.rules.specs.declared.Answer.{Answer}
-use Rattle.rules.specs.Replies.{answerOf, pathAfter}
-use Rattle.rules.specs.Calls.{booksIn, quote, admission, booked, release, cleared}
-use Rattle.ledger.specs.History.{Lending, replyTo, areaAfter, areaAtEnd}
+use Rattle.rules.specs.declared.RequestAnswer.{RequestAnswer}
+use Rattle.rules.specs.declared.ReleaseAnswer.{ReleaseAnswer}
+use Rattle.rules.specs.Replies.{answerOf, pathAfter, releaseAnswerOf}
+use Rattle.rules.specs.Calls.{quote, admission, booked, release, cleared}
+use Rattle.ledger.specs.History.{Lending, areaAfter, linksOf, Given, of-request, of-release, pathGiven, releaseGiven, givenTo, areaAtEnd}
 use Rattle.call_list.specs.Calls.{rows, kindOf, isQuote, requestOf, callOf, workLent, pathLent, workFiller, pathFiller, workWords, pathWords, lent, callAt, callsFrom}
 
--- a release leaves any path buffer as it was
-unwritten : (w : List ℕ) (c : ℕ) (l : List ℕ) → l ≡ pathAfter (release w c) l
-unfolding release pathAfter
-unwritten w c l =
-    by-bool (wellFormed w)
-    (λ e. by-bool (booksIn w .holds c) (λ f. rw (e, f)) (λ f. rw (e, f)))
-    (λ e. rw e)
-
--- ---- a row's call, on an area w: the answer x, and the path buffer p and the area w' after
+-- ---- a row's call, on an area w: what it gives, and the area w' after
 module _ (w work path r : List ℕ) where
-  abbrev Made : Answer → List ℕ → List ℕ → Type 0
-  Made x p w' =
-      (x ≡ answerOf (replyTo w (callOf r work path)))
-      × ((p ≡ pathAfter (replyTo w (callOf r work path)) path) × (w' ≡ areaAfter w (callOf r work path)))
+  abbrev pub Made : Given → List ℕ → Type 0
+  Made g w' = (g ≡ givenTo w (callOf r work path)) × (w' ≡ areaAfter w (callOf r work path))
 
-  module _ (q : Request) (asked : q ≡ requestOf r) (x : Answer) (p : List ℕ) where
+  -- by the code's answer x, and for a path the path buffer p after
+  module _ (q : Request) (asked : q ≡ requestOf r) (x : RequestAnswer) (p : List ℕ) where
     pub quoted : isQuote (kindOf r) ≡ true → x ≡ answerOf (quote w (length work) (length path) q)
         → p ≡ pathAfter (quote w (length work) (length path) q) path
-        → Made x p w
-    unfolding callOf
-    quoted kind e f = rw kind (e ∙ rw asked, (f ∙ rw asked, refl))
+        → Made (of-request x (take (linksOf x) p)) w
+    unfolding callOf pathGiven
+    quoted kind e f = rw kind (ap₂ (λ (y : RequestAnswer) (l : List ℕ). of-request y (take (linksOf y) l)) (e ∙ rw asked) (f ∙ rw asked), refl)
 
     pub admitted : isQuote (kindOf r) ≡ false → (kindOf r ≡ 2 → ⊥) → x ≡ answerOf (admission w (length work) (length path) (getD r 1 0) q)
         → p ≡ pathAfter (admission w (length work) (length path) (getD r 1 0) q) path
         → (w' : List ℕ) → w' ≡ booked w (getD r 1 0) (q .units) (admission w (length work) (length path) (getD r 1 0) q)
-        → Made x p w'
-    unfolding callOf
-    admitted kind other e f w' g = rw (kind, ne-eqb (kindOf r) 2 other) (e ∙ rw asked, (f ∙ rw asked, g ∙ rw asked))
+        → Made (of-request x (take (linksOf x) p)) w'
+    unfolding callOf pathGiven
+    admitted kind other e f w' g =
+        rw (kind, ne-eqb (kindOf r) 2 other)
+        (ap₂ (λ (y : RequestAnswer) (l : List ℕ). of-request y (take (linksOf y) l)) (e ∙ rw asked) (f ∙ rw asked), g ∙ rw asked)
 
-  pub released : isQuote (kindOf r) ≡ false → kindOf r ≡ 2 → (x : Answer) → x ≡ answerOf (release w (getD r 1 0)) → (w' : List ℕ)
-      → w' ≡ cleared w (getD r 1 0) (release w (getD r 1 0))
-      → Made x path w'
-  unfolding callOf
-  released kind two x e w' g = rw (kind, eq-eqb (kindOf r) 2 two) (e, (unwritten w (getD r 1 0) path, g))
+  pub released : isQuote (kindOf r) ≡ false → kindOf r ≡ 2 → (x : ReleaseAnswer) → x ≡ releaseAnswerOf (release w (getD r 1 0))
+      → (w' : List ℕ) → w' ≡ cleared w (getD r 1 0) (release w (getD r 1 0))
+      → Made (of-release x) w'
+  unfolding callOf releaseGiven
+  released kind two x e w' g = rw (kind, eq-eqb (kindOf r) 2 two) (ap of-release e, g)
 
 -- ---- with the words that it is lent
 module _ (struck : Bool) (k : ℕ) (r : List ℕ) where
@@ -64,14 +56,11 @@ module _ (struck : Bool) (k : ℕ) (r : List ℕ) where
   path-as n word many is =
       ap (λ (m : ℕ). take m (replicate 31 word)) many ∙ ap (λ (a : ℕ). take (pathLent (kindOf r)) (replicate 31 a)) is
 
-  pub lent-as : (w w' work path : List ℕ) → work ≡ workWords struck k (kindOf r) → path ≡ pathWords struck (kindOf r)
-      → w' ≡ areaAfter w (callOf r work path)
-      → w' ≡ areaAfter w (lent struck k r)
+  pub lent-as : (work path : List ℕ) → work ≡ workWords struck k (kindOf r) → path ≡ pathWords struck (kindOf r)
+      → callOf r work path ≡ lent struck k r
   unfolding lent
-  lent-as w w' work path e f is =
-      is
-      ∙ ap (λ (l : List ℕ). areaAfter w (callOf r l path)) e
-      ∙ ap (λ (l : List ℕ). areaAfter w (callOf r (workWords struck k (kindOf r)) l)) f
+  lent-as work path e f =
+      ap (λ (l : List ℕ). callOf r l path) e ∙ ap (callOf r (workWords struck k (kindOf r))) f
 
 -- ---- row k of the list, whose words are r
 module _ (struck : Bool) (k : ℕ) (r : List ℕ) (is : r ≡ getD rows k []) where

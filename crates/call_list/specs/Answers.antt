@@ -4,18 +4,22 @@ use Prim.Native.Nat.{ℕ}
 use mathlib.Core.List.{List, [], _∷_}
 use lib.ListN.{length}
 use Rattle.area.specs.Station.{Circuit}
-use Rattle.rules.specs.declared.Answer.the-variants.{Refused, Granted, Released}
-use Rattle.ledger.specs.History.{Given}
+use Rattle.rules.specs.declared.RequestAnswer.the-variants.{Refused, Granted}
+use Rattle.rules.specs.declared.ReleaseAnswer.the-variants as release
+use Rattle.ledger.specs.History.{Given, of-request, of-release}
 use Rattle.cases.specs.Document01.{three}
 
 abbrev refused : ℕ → Given
-refused k = record { numbers = Refused k; words = [] }
+refused k = of-request (Refused k) []
 
 abbrev granted : ℕ → ℕ → ℕ → List ℕ → Given
-granted k d x p = record { numbers = Granted (record { problem = k; delay = d; cost = x; links = length p }); words = p }
+granted k d x p = of-request (Granted (record { problem = k; delay = d; cost = x; links = length p })) p
+
+abbrev unreleased : ℕ → Given
+unreleased k = of-release (release.Refused k)
 
 abbrev released : Given
-released = record { numbers = Released; words = [] }
+released = of-release release.Released
 
 -- by the three links, and by link 3
 abbrev byThree : ℕ → Given
@@ -40,7 +44,7 @@ expected =
     -- rows 10 to 17
     ∷ released
     ∷ byThree 1
-    ∷ refused 13
+    ∷ unreleased 13
     ∷ byThree 2
     ∷ refused 10
     ∷ refused 6

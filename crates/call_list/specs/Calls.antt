@@ -7,6 +7,7 @@ use mathlib.Core.List.{List, [], _∷_, _++_}
 use lib.Dec.{eqb}
 use lib.ListN.{getD, take, replicate}
 use Rattle.network.specs.declared.Request.{Request}
+use Rattle.network.specs.Reduce.{asking}
 use Rattle.ledger.specs.Entries.{Call, quoting, admitting, releasing}
 use Rattle.ledger.specs.History.{Lending}
 
@@ -55,15 +56,7 @@ abbrev pub isQuote : ℕ → Bool
 isQuote kind = eqb kind 0 || eqb kind 4
 
 abbrev pub requestOf : List ℕ → Request
-requestOf r =
-    record {
-      source = getD r 2 0;
-      target = getD r 3 0;
-      units = getD r 4 0;
-      «delay_bound» = getD r 5 0;
-      «cost_bound» = getD r 6 0;
-      coefficient = getD r 7 0;
-    }
+requestOf r = asking (getD r 2 0) (getD r 3 0) (getD r 4 0) (getD r 5 0) (getD r 6 0) (getD r 7 0)
 
 -- with work memory and path buffer, or their lengths
 unfoldable pub callOf : {Lent : Type 0} → List ℕ → Lent → Lent → Call Lent

@@ -20,36 +20,43 @@ use Rattle.search.specs.ebf.Trace.{trailBack, stepBack, traced}
 use Rattle.search.specs.ebf.Solve.{pathIn, answerIn, solveIn, solve}
 use Rattle.search.specs.Distance.{spread, layer, distance}
 use Rattle.search.specs.Heuristic.{tried, search}
+use Rattle.search.specs.Result.{outcome}
 use Rattle.area.specs.Station.{tableIn, circuitOf, station}
 use Rattle.area.specs.Books.{books, net}
 use Rattle.area.specs.Load.{loadAnswer}
-use Rattle.rules.specs.Replies.{Reply}
+use Rattle.rules.specs.Replies.{PathReply}
 use Rattle.rules.specs.Calls.{quote, admission}
 use Rattle.rules.specs.Meaning.{netFor}
-use Rattle.cases.specs.Document01.{netA, netB, AreasLoaded, m2, m3, m11, Asked, quoting, admitting, Case, cases, Holds, CaseHolds, Margins}
+use Rattle.cases.specs.Document01.{netA, netB, AreasLoaded, m2, m3, m11, Asked, quoting, admitting, areaIn, Case, cases, Holds, CaseHolds, Margins}
 use Rattle.rules.proofs.Meaning.{quote-means, admission-means}
 
 -- ---- the cases
 -- what the calls' definitions reply, with enough work memory and path buffer
-abbrev pub replied : List ℕ → Asked → Reply
+abbrev pub replied : List ℕ → Asked → PathReply
 replied w (quoting r) = quote w 16384 31 r
 replied w (admitting c r) = admission w 16384 31 c r
 
+-- and on the area that a case stands on
+abbrev pub repliedTo : Case → PathReply
+repliedTo c = replied (areaIn (c .stands)) (c .asked)
+
 -- the replies of all cases, computed
-pub replies : map (λ (c : Case). replied (c .area) (c .asked)) cases ≡ map (λ (c : Case). c .reply) cases
-unfolding cases quote admission tableIn circuitOf search tried solve solveIn answerIn pathIn ebf rounds round column offered relaxed improved initialised filled cell cells traced stepBack trailBack noted follow distance layer spread problemOne problemTwo scaled iter first
+pub replies : map repliedTo cases ≡ map (λ (c : Case). c .reply) cases
+unfolding cases areaIn quote admission tableIn circuitOf outcome search tried solve solveIn answerIn pathIn ebf rounds round column offered relaxed improved initialised filled cell cells traced stepBack trailBack noted follow distance layer spread problemOne problemTwo scaled iter first
 replies = refl
 
 -- a computed reply is what the call means
 replied-holds : (w : List ℕ) (q : Asked) → Holds w q (replied w q)
 replied-holds w (quoting r) = quote-means w 16384 31 r
-replied-holds w (admitting c r) = admission-means w 16384 31 c r
+replied-holds w (admitting c r) = admission-means w 16384 31 r c
 
 -- one equation of two lists, as a statement of each element
-each : (l : List Case) → map (λ (c : Case). replied (c .area) (c .asked)) l ≡ map (λ (c : Case). c .reply) l → All CaseHolds l
+each : (l : List Case) → map repliedTo l ≡ map (λ (c : Case). c .reply) l → All CaseHolds l
 each [] e = tt
-each (c ∷ l) e =
-    (subst (Holds (c .area) (c .asked)) (head-eq-of-cons-eq e) (replied-holds (c .area) (c .asked)), each l (tail-eq-of-cons-eq e))
+each (c ∷ l) e = (
+  subst (Holds (areaIn (c .stands)) (c .asked)) (head-eq-of-cons-eq e) (replied-holds (areaIn (c .stands)) (c .asked)),
+  each l (tail-eq-of-cons-eq e),
+)
 
 -- the areas are freshly loaded
 pub areas-loaded : AreasLoaded

@@ -12,13 +12,14 @@ use Rattle.search.specs.ebf.Trace.{trailBack, stepBack, traced}
 use Rattle.search.specs.ebf.Solve.{pathIn, answerIn, solveIn, solve}
 use Rattle.search.specs.Distance.{spread, layer, distance}
 use Rattle.search.specs.Heuristic.{tried, search}
+use Rattle.search.specs.Result.{outcome}
 use Rattle.area.specs.Station.{tableIn, circuitOf}
 use Rattle.link_format.specs.Reading.{wordAt, signed, fills}
 use Rattle.class_format.specs.Output.{fileOutput, output}
 use Rattle.class_format.specs.NetA.{fileFor, netAFile, netALines, fileSeventeen, loadTwo}
 
 pub net-a-prints : output netAFile ≡ netALines
-unfolding output fileOutput netAFile wordAt signed fills tableIn circuitOf search tried solve solveIn answerIn pathIn ebf rounds round column offered relaxed improved initialised filled cell cells traced stepBack trailBack noted follow distance layer spread problemOne problemTwo scaled iter first
+unfolding output fileOutput netAFile wordAt signed fills tableIn circuitOf outcome search tried solve solveIn answerIn pathIn ebf rounds round column offered relaxed improved initialised filled cell cells traced stepBack trailBack noted follow distance layer spread problemOne problemTwo scaled iter first
 net-a-prints = refl
 
 pub no-byte-prints : output [] ≡ fileSeventeen

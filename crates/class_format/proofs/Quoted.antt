@@ -8,18 +8,14 @@ use lib.ListN.{length, take, drop, length-append}
 use lib.Seq.{take-append-seam}
 use Rattle.network.proofs.Tests.{zero-one}
 use Rattle.network.specs.declared.Grant.{Grant}
-use Rattle.network.specs.Net.{Net}
-use Rattle.network.specs.Reduce.{Outcome, no-path, no-solution, granted}
 use Rattle.network.specs.declared.Request.{Request}
-use Rattle.search.specs.Heuristic.{search as find}
-use Rattle.area.specs.Books.{Books, net}
-use Rattle.area.proofs.Checks.{all-pass}
+use Rattle.area.specs.Refusals.{refuses, grants}
 use Rattle.rules.specs.declared.Service.{Service}
 use Rattle.rules.specs.declared.ClassAnswer.the-variants as asked
 use Rattle.rules.specs.Classes.{classAnswer}
-use Rattle.rules.specs.declared.Answer.the-variants.{Refused, Granted, Released}
-use Rattle.rules.specs.Replies.{Reply, refuses, grants, releases, answerOf, replyOf, pathAfter}
-use Rattle.rules.specs.Calls.{booksIn, quoteChecks, sought, quote}
+use Rattle.rules.specs.declared.RequestAnswer.the-variants.{Refused, Granted}
+use Rattle.rules.specs.Replies.{PathGrant, PathReply, answerOf, pathAfter}
+use Rattle.rules.specs.Calls.{quote}
 use Rattle.class_format.specs.Lines.{line, replyLine, requestOf, quoteLine, answeredLine, classLine}
 
 -- ---- a quote's reply
@@ -36,60 +32,32 @@ refuses-line : (k number : ℕ) → replyLine k (refuses number) ≡ line k (0 �
 unfolding replyLine
 refuses-line k number = refl
 
-grants-line : (k problem delay cost : ℕ) (path : List ℕ) → replyLine k (grants problem delay cost path) ≡ line k (problem ∷ delay ∷ cost ∷ path)
+grants-line : (k : ℕ) (b : PathGrant) → replyLine k (grants b) ≡ line k (b .problem ∷ b .delay ∷ b .cost ∷ b .path)
 unfolding replyLine
-grants-line k problem delay cost path = refl
+grants-line k b = refl
 
 -- a refusal's line
-pub reply-refused : (k j : ℕ) (x : Reply) → Refused j ≡ answerOf x → replyLine k x ≡ line k (0 ∷ j ∷ [])
+pub reply-refused : (k j : ℕ) (x : PathReply) → Refused j ≡ answerOf x → replyLine k x ≡ line k (0 ∷ j ∷ [])
 unfolding answerOf
 reply-refused k j (refuses number) e = let same : number ≡ j = cc in refuses-line k number ∙ rw same
-reply-refused k j (grants problem delay cost path) e = let z : _≡_ {A = ℕ} 0 1 = cc in absurd (omega arith)
-reply-refused k j releases e = let z : _≡_ {A = ℕ} 0 1 = cc in absurd (omega arith)
-
--- no quote has the reply of a release
-reply-never : (g : Net) (o : Outcome) → replyOf g o ≡ releases → ⊥
-unfolding replyOf
-reply-never g no-path e = zero-one cc
-reply-never g no-solution e = zero-one cc
-reply-never g (granted which path) e = zero-one cc
-
-sought-never : (o : Books) (r : Request) → sought o r ≡ releases → ⊥
-unfolding sought
-sought-never o r e = reply-never (net o (r .units)) (find (net o (r .units)) r) e
-
-quote-never : (area : List ℕ) (work room : ℕ) (r : Request) → quote area work room r ≡ releases → ⊥
-unfolding quote
-quote-never area work room r e =
-    sought-never (booksIn area) r
-    (all-pass refuses (quoteChecks area work room r) (sought (booksIn area) r) releases (λ k clash. zero-one cc) e .1)
-
-released-reply : (x : Reply) → Released ≡ answerOf x → x ≡ releases
-unfolding answerOf
-released-reply (refuses number) e = let z : _≡_ {A = ℕ} 0 1 = cc in absurd (omega arith)
-released-reply (grants problem delay cost path) e = let z : _≡_ {A = ℕ} 0 1 = cc in absurd (omega arith)
-released-reply releases e = refl
-
-pub never-released : (area : List ℕ) (work room : ℕ) (r : Request) → Released ≡ answerOf (quote area work room r) → ⊥
-never-released area work room r e = quote-never area work room r (released-reply (quote area work room r) e)
+reply-refused k j (grants b) e = absurd (zero-one cc)
 
 -- a granted path's l links stand in the first words of the buffer
 module _ (k l : ℕ) (g : Grant) (buffer after : List ℕ) (wide : l ≡ g .links) where
-  abbrev Told : Reply → Type 0
+  abbrev Told : PathReply → Type 0
   Told x = (l ≤ length after) × (replyLine k x ≡ line k (g .problem ∷ g .delay ∷ g .cost ∷ take l after))
 
-  granted-told : (problem delay cost : ℕ) (path : List ℕ) → g ≡ record { problem = problem; delay = delay; cost = cost; links = length path }
-      → after ≡ path ++ drop (length path) buffer → Told (grants problem delay cost path)
-  granted-told problem delay cost path e written = (
+  granted-told : (b : PathGrant) → g ≡ record { problem = b .problem; delay = b .delay; cost = b .cost; links = length (b .path) }
+      → after ≡ b .path ++ drop (length (b .path)) buffer → Told (grants b)
+  granted-told b e written = (
     rw (wide, e, written) (simp length-append (omega arith)),
-    grants-line k problem delay cost path ∙ rw (wide, e, written) (rw take-append-seam),
+    grants-line k b ∙ rw (wide, e, written) (rw take-append-seam),
   )
 
-  pub reply-granted : (x : Reply) → Granted g ≡ answerOf x → after ≡ pathAfter x buffer → Told x
+  pub reply-granted : (x : PathReply) → Granted g ≡ answerOf x → after ≡ pathAfter x buffer → Told x
   unfolding answerOf pathAfter
-  reply-granted (refuses number) e written = let z : _≡_ {A = ℕ} 0 1 = cc in absurd (omega arith)
-  reply-granted (grants problem delay cost path) e written = granted-told problem delay cost path (cc) written
-  reply-granted releases e written = let z : _≡_ {A = ℕ} 0 1 = cc in absurd (omega arith)
+  reply-granted (refuses number) e written = absurd (zero-one cc)
+  reply-granted (grants b) e written = granted-told b (cc) written
 
 -- ---- a class
 class-line : (area : List ℕ) (n k : ℕ) → classLine area n k ≡ answeredLine area n k (classAnswer k)

@@ -2,12 +2,14 @@
 -- Assumes nothing.
 use Prim.Native.Nat.{ℕ, zero, suc, _-_}
 use mathlib.Core.List.{List, [], _∷_, _++_}
+use Rattle.network.specs.Reduce.{asking}
 use Rattle.network.specs.declared.Request.{Request}
+use Rattle.area.specs.Refusals.{refuses, grants}
 use Rattle.rules.specs.declared.Service.{Service}
 use Rattle.rules.specs.declared.ClassAnswer.{ClassAnswer}
 use Rattle.rules.specs.declared.ClassAnswer.the-variants.{Refused, Row}
 use Rattle.rules.specs.Classes.{classAnswer}
-use Rattle.rules.specs.Replies.{Reply, refuses, grants, releases}
+use Rattle.rules.specs.Replies.{PathReply}
 use Rattle.rules.specs.Calls.{quote}
 use Rattle.text_format.specs.Decimal.{decimal}
 use Rattle.text_format.specs.Fields.{fields}
@@ -18,17 +20,14 @@ unfolding decimal fields
 line k ns = decimal k ++ fields ns ++ 10 ∷ []
 
 -- class, problem, delay, cost, links; refused: class, 0, number
-unfoldable pub replyLine : ℕ → Reply → List ℕ
+unfoldable pub replyLine : ℕ → PathReply → List ℕ
 unfolding line
 replyLine k (refuses number) = line k (0 ∷ number ∷ [])
-replyLine k (grants problem delay cost path) = line k (problem ∷ delay ∷ cost ∷ path)
--- no quote has this reply
-replyLine k releases = []
+replyLine k (grants g) = line k (g .problem ∷ g .delay ∷ g .cost ∷ g .path)
 
 -- what a class asks for, from node 0 to n - 1
 unfoldable pub requestOf : ℕ → Service → Request
-requestOf n s =
-    record { source = 0; target = n - 1; units = s .units; «delay_bound» = s .«delay_bound»; «cost_bound» = s .«cost_bound»; coefficient = s .coefficient }
+requestOf n s = asking 0 (n - 1) (s .units) (s .«delay_bound») (s .«cost_bound») (s .coefficient)
 
 -- the line of class k with the row s, quoted on an area of n nodes
 unfoldable pub quoteLine : List ℕ → ℕ → ℕ → Service → List ℕ

@@ -10,7 +10,7 @@ use booking::quote::quote;
 use links::link;
 use network::Grant;
 use network::Request;
-use rules::Answer;
+use rules::RequestAnswer;
 use rules::Service;
 
 // Class, 0, number.
@@ -71,12 +71,11 @@ fn put_quote(
     let mut path = [0u32; 31];
     let a = quote(area, work, &mut path, request(n, s));
     match a {
-        Answer::Refused(k) => put_refused(text, at, class, k),
-        Answer::Granted(g) => {
+        RequestAnswer::Refused(k) => put_refused(text, at, class, k),
+        RequestAnswer::Granted(g) => {
             let l = link::wide(g.links);
             put_granted(text, at, class, g, &path[..l])
         }
-        Answer::Released => at,
     }
 }
 

@@ -1,11 +1,13 @@
-// The list of calls, and each of them made and printed: a run leaves the area that the history of its calls leaves.
+// The list of calls, and each of them made and its line put into a text: a run leaves the area that the history of its calls
+// leaves, and its text is that of the history's answers.
 ghost use mathlib.Core.Path.{_≡_};
-ghost use Prim.Native.Nat.{_<_, _≤_};
+ghost use Prim.Native.Nat.{_+_, _<_, _≤_};
 ghost use mathlib.Core.List.{[]};
 ghost use lib.ListN.{length, getD};
-ghost use Rattle.rules.specs.Replies.{answerOf, pathAfter};
-ghost use Rattle.ledger.specs.History.{replyTo, areaAfter, areaAtEnd};
+ghost use lib.Seq.{sets};
+ghost use Rattle.ledger.specs.History.{givenTo, areaAfter, areaAtEnd};
 ghost use Rattle.call_list.specs.Calls.{rows, requestOf, callOf, lent, callAt, calls};
+ghost use Rattle.history.specs.Lines.{nameText, givenText, lentText, rowText, runText};
 use crate::kinds;
 use crate::kinds::ADMISSION;
 use crate::kinds::QUOTE;
@@ -14,10 +16,8 @@ use crate::kinds::SHORT_PATH;
 use crate::kinds::SHORT_WORK;
 use booking::calls;
 use booking::quote::quote;
-use libc::STDOUT_FILENO;
 use links::link;
 use network::Request;
-use rules::Answer;
 
 // The list of calls. A row is kind, circuit number, source, target, units, delay bound, cost bound and coefficient; a
 // number that plays no part is 0.
@@ -50,15 +50,19 @@ const ROWS: [[u32; 8]; 25] = [
 ];
 
 // The row's number and the name of its call.
-fn write_name(k: u32, kind: u32) {
-    io::print_decimal(STDOUT_FILENO, k as u64);
+fn put_name(text: &mut [u8; 10000], at: usize, k: u32, kind: u32) -> usize
+    requires { ⌜ at + 400 ≤ 10000 ⌝ }
+    ensures end { λ r. ⌜ (r ≡ at + length (nameText k kind)) × (r ≤ at + 20) × (r ≤ length (now (text .exit))) ⌝ }
+    ensures text { λ _. ⌜ now (text .exit) ≡ sets (now (text .entry)) at (nameText k kind) ⌝ }
+{
+    let end = text::put_number(text, at, k);
     if kinds::is_quote(kind) {
-        io::write_all(STDOUT_FILENO, b" quote");
-    } else if kind == RELEASE {
-        io::write_all(STDOUT_FILENO, b" release");
-    } else {
-        io::write_all(STDOUT_FILENO, b" admission");
+        return text::put(text, end, b" quote");
     }
+    if kind == RELEASE {
+        return text::put(text, end, b" release");
+    }
+    text::put(text, end, b" admission")
 }
 
 fn request(row: [u32; 8]) -> Request
@@ -74,52 +78,56 @@ fn request(row: [u32; 8]) -> Request
     }
 }
 
-// What the call of a row answers. It leaves the path in the path buffer, and the area as the history has it.
-fn answered(area: &mut [u32; 3459], work: &mut [u32], path: &mut [u32], row: [u32; 8]) -> Answer
-    ensures answer { λ a. ⌜ a ≡ answerOf (replyTo (now (area .entry)) (callOf row (now (work .entry)) (now (path .entry)))) ⌝ }
-    ensures path { λ _. ⌜ now (path .exit) ≡ pathAfter (replyTo (now (area .entry)) (callOf row (now (work .entry)) (now (path .entry)))) (now (path .entry)) ⌝ }
+// Makes the call of a row with this work memory and path buffer, and puts what it answered. It leaves the area as the
+// history has it.
+fn put_call(
+    area: &mut [u32; 3459],
+    work: &mut [u32],
+    path: &mut [u32],
+    text: &mut [u8; 10000],
+    at: usize,
+    row: [u32; 8],
+) -> usize
+    requires { ⌜ (at + 380 ≤ 10000) × (length (now path) ≤ 31) ⌝ }
     ensures area { λ _. ⌜ now (area .exit) ≡ areaAfter (now (area .entry)) (callOf row (now (work .entry)) (now (path .entry))) ⌝ }
+    ensures end { λ r. ⌜ (r ≡ at + length (givenText (givenTo (now (area .entry)) (callOf row (now (work .entry)) (now (path .entry)))))) × (r ≤ at + 380) × (r ≤ length (now (text .exit))) ⌝ }
+    ensures text { λ _. ⌜ now (text .exit) ≡ sets (now (text .entry)) at (givenText (givenTo (now (area .entry)) (callOf row (now (work .entry)) (now (path .entry))))) ⌝ }
 {
     let kind = row[0];
     let circuit = row[1];
     let r = request(row);
     if kinds::is_quote(kind) {
-        return quote(area, work, path, r);
+        let quoted = quote(area, work, path, r);
+        return answer_lines::put_answer(text, at, quoted, path);
     }
     if kind == RELEASE {
-        return calls::release(area, circuit);
+        let released = calls::release(area, circuit);
+        return answer_lines::put_release(text, at, released);
     }
-    calls::admit(area, work, path, circuit, r)
+    let admitted = calls::admit(area, work, path, circuit, r);
+    answer_lines::put_answer(text, at, admitted, path)
 }
 
-// Writes what a call answered, with the words of its path buffer.
-fn write_answer(answer: Answer, path: &[u32])
-    requires { ⌜ length (now path) ≤ 31 ⌝ }
-{
-    let mut text = [0u8; 375];
-    let end = answer_lines::put_answer(&mut text, 0, answer, path);
-    io::write_all(STDOUT_FILENO, &text[..end]);
-}
-
-// Makes the call of row `k` with this work memory and path buffer, and prints its line.
-fn call(area: &mut [u32; 3459], work: &mut [u32], path: &mut [u32], k: u32, row: [u32; 8])
-    requires { ⌜ length (now path) ≤ 31 ⌝ }
-    ensures area { λ _. ⌜ now (area .exit) ≡ areaAfter (now (area .entry)) (callOf row (now (work .entry)) (now (path .entry))) ⌝ }
-{
-    write_name(k, row[0]);
-    let answer = answered(area, work, path, row);
-    write_answer(answer, path);
-}
-
-// Fills work memory and path buffer, and lends as many of their words as the row's kind is lent.
-fn lend_and_call(struck: bool, area: &mut [u32; 3459], k: u32, row: [u32; 8])
-    ensures { λ _. ⌜ now (area .exit) ≡ areaAfter (now (area .entry)) (lent struck k row) ⌝ }
+// Fills work memory and path buffer, lends as many of their words as the row's kind is lent, and puts the line of row `k`.
+fn put_row(
+    struck: bool,
+    area: &mut [u32; 3459],
+    text: &mut [u8; 10000],
+    at: usize,
+    k: u32,
+    row: [u32; 8],
+) -> usize
+    requires { ⌜ at + 400 ≤ 10000 ⌝ }
+    ensures area { λ _. ⌜ now (area .exit) ≡ areaAfter (now (area .entry)) (lent struck k row) ⌝ }
+    ensures end { λ r. ⌜ (r ≡ at + length (lentText struck (now (area .entry)) k row)) × (r ≤ at + 400) × (r ≤ length (now (text .exit))) ⌝ }
+    ensures text { λ _. ⌜ now (text .exit) ≡ sets (now (text .entry)) at (lentText struck (now (area .entry)) k row) ⌝ }
 {
     let mut work: [u32; 16384] = [kinds::work_filler(struck, k); 16384];
     let mut path: [u32; 31] = [kinds::path_filler(struck); 31];
     let w = kinds::lent(row[0], SHORT_WORK, 8, 16384);
     let p = kinds::lent(row[0], SHORT_PATH, 30, 31);
-    call(area, &mut work[..w], &mut path[..p], k, row);
+    let named = put_name(text, at, k, row[0]);
+    put_call(area, &mut work[..w], &mut path[..p], text, named, row)
 }
 
 // The words of row `k`. The loop over the list counts its 25 rows.
@@ -130,23 +138,35 @@ fn row_at(k: u32) -> [u32; 8]
     ROWS[link::wide(k)]
 }
 
-// The call of row `k`, unless it is a quote and quotes are struck.
-fn unless_struck(struck: bool, area: &mut [u32; 3459], k: u32)
-    requires { ⌜ k < 25 ⌝ }
-    ensures { λ _. ⌜ now (area .exit) ≡ areaAtEnd (now (area .entry)) (callAt struck k) ⌝ }
+// The call of row `k` and its line, unless it is a quote and quotes are struck.
+fn unless_struck(
+    struck: bool,
+    area: &mut [u32; 3459],
+    text: &mut [u8; 10000],
+    at: usize,
+    k: u32,
+) -> usize
+    requires { ⌜ (k < 25) × (at + 400 ≤ 10000) × (at ≤ length (now text)) ⌝ }
+    ensures area { λ _. ⌜ now (area .exit) ≡ areaAtEnd (now (area .entry)) (callAt struck k) ⌝ }
+    ensures end { λ r. ⌜ (r ≡ at + length (rowText struck (now (area .entry)) k)) × (r ≤ at + 400) × (r ≤ length (now (text .exit))) ⌝ }
+    ensures text { λ _. ⌜ now (text .exit) ≡ sets (now (text .entry)) at (rowText struck (now (area .entry)) k) ⌝ }
 {
     let row = row_at(k);
     if kinds::is_struck(struck, row[0]) {
-        return;
+        return at;
     }
-    lend_and_call(struck, area, k, row);
+    put_row(struck, area, text, at, k, row)
 }
 
-// The calls of the whole list.
-pub fn every_call(struck: bool, area: &mut [u32; 3459])
-    ensures { λ _. ⌜ now (area .exit) ≡ areaAtEnd (now (area .entry)) (calls struck) ⌝ }
+// The calls of the whole list, with their lines. A line has at most 400 bytes, so the text has room for all.
+pub(crate) fn every_call(struck: bool, area: &mut [u32; 3459], text: &mut [u8; 10000]) -> usize
+    ensures area { λ _. ⌜ now (area .exit) ≡ areaAtEnd (now (area .entry)) (calls struck) ⌝ }
+    ensures end { λ r. ⌜ (r ≡ length (runText struck (now (area .entry)))) × (r ≤ length (now (text .exit))) ⌝ }
+    ensures text { λ _. ⌜ now (text .exit) ≡ sets (now (text .entry)) 0 (runText struck (now (area .entry))) ⌝ }
 {
+    let mut at = 0;
     for k in 0..25 {
-        unless_struck(struck, area, k);
+        at = unless_struck(struck, area, text, at, k);
     }
+    at
 }

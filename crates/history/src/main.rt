@@ -7,14 +7,17 @@
 // released. After the calls come the held circuits as they stand in the area, each with its units and its links, and
 // then each link's free units.
 //
-// The contracts tie the program to that claim: each run leaves the area that the history of its calls leaves, and so
-// `both_runs` ensures that the bookings are the same.
+// The contracts tie the program to that claim: each run leaves the area that the history of its calls leaves and puts the text
+// of its answers, and so `both_runs` ensures that the second text is the first one's without its quotes, and that the
+// bookings are the same. The text of a run's calls is written once, at its end.
 ghost use mathlib.Core.Path.{_≡_};
 ghost use mathlib.Core.Bool.{true, false};
+ghost use lib.Seq.{sets};
 ghost use Rattle.area.specs.Order.{Same};
 ghost use Rattle.area.specs.declared.Loading.the-variants.{Loaded};
 ghost use Rattle.area.specs.Load.{loadAnswer, areaLoaded};
-ghost use Rattle.ledger.specs.History.{areaAtEnd, bookings};
+ghost use Rattle.ledger.specs.History.{answers, areaAtEnd, bookings};
+ghost use Rattle.history.specs.Lines.{linesOf, unquotedLines, rowsMade, runText};
 ghost use Rattle.cases.specs.Document01.{linksA};
 ghost use Rattle.call_list.specs.Calls.{calls};
 
@@ -44,32 +47,44 @@ fn load_net(area: &mut [u32; 3459])
     write_loading(load(4, &links, area));
 }
 
-// The list from a load on, and what is then held and free.
-fn run(struck: bool, area: &mut [u32; 3459])
+// The list from a load on: its text, and then what is held and free.
+fn run(struck: bool, area: &mut [u32; 3459], text: &mut [u8; 10000])
     ensures accepted { λ _. ⌜ loadAnswer (now (area .entry)) 4 linksA ≡ Loaded ⌝ }
     ensures area { λ _. ⌜ now (area .exit) ≡ areaAtEnd (areaLoaded (now (area .entry)) 4 linksA) (calls struck) ⌝ }
+    ensures text { λ _. ⌜ now (text .exit) ≡ sets (now (text .entry)) 0 (runText struck (areaLoaded (now (area .entry)) 4 linksA)) ⌝ }
 {
     load_net(area);
-    every_call(struck, area);
+    let end = every_call(struck, area, text);
+    output::write_text(text, end);
     bookings::circuits_held(area);
     bookings::every_free(area);
 }
 
-// Both runs, each on an area of its own. By the theorem of the crate `ledger` they leave the same bookings, whatever the
-// areas held.
-fn both_runs(first: &mut [u32; 3459], second: &mut [u32; 3459])
+// Both runs, each on an area of its own and with a text of its own. By the third demand, whatever the areas held, the second
+// run answers each remaining call as the first did, so its text is the first one's without the lines of the quotes; and both
+// leave the same bookings.
+fn both_runs(
+    first: &mut [u32; 3459],
+    second: &mut [u32; 3459],
+    told: &mut [u8; 10000],
+    again: &mut [u8; 10000],
+)
     ensures first { λ _. ⌜ now (first .exit) ≡ areaAtEnd (areaLoaded (now (first .entry)) 4 linksA) (calls false) ⌝ }
     ensures second { λ _. ⌜ now (second .exit) ≡ areaAtEnd (areaLoaded (now (second .entry)) 4 linksA) (calls true) ⌝ }
+    ensures told { λ _. ⌜ now (told .exit) ≡ sets (now (told .entry)) 0 (linesOf (rowsMade false) (answers (areaLoaded (now (first .entry)) 4 linksA) (calls false))) ⌝ }
+    ensures again { λ _. ⌜ now (again .exit) ≡ sets (now (again .entry)) 0 (unquotedLines (rowsMade false) (answers (areaLoaded (now (first .entry)) 4 linksA) (calls false))) ⌝ }
     ensures same { λ _. ⌜ Same (bookings (now (second .exit))) (bookings (now (first .exit))) ⌝ }
 {
-    run(false, first);
+    run(false, first, told);
     io::write_all(STDOUT_FILENO, b"quotes struck\n");
-    run(true, second);
+    run(true, second, again);
 }
 
 // Before it is loaded, the second area seems to hold seven circuits with number 7.
 fn main() {
     let mut first: [u32; 3459] = [88; 3459];
     let mut second: [u32; 3459] = [7; 3459];
-    both_runs(&mut first, &mut second);
+    let mut told: [u8; 10000] = [0; 10000];
+    let mut again: [u8; 10000] = [0; 10000];
+    both_runs(&mut first, &mut second, &mut told, &mut again);
 }

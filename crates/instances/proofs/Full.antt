@@ -14,14 +14,14 @@ use Rattle.network.specs.Loops.{iter, first}
 use Rattle.network.specs.NodeSet.{member, inserted}
 use Rattle.network.specs.Scale.{scaled}
 use Rattle.network.specs.Cut.{noted, follow}
-use Rattle.network.specs.Reduce.{problemOne, problemTwo, granted}
+use Rattle.network.specs.Reduce.{problemOne, problemTwo, granted, asking}
 use Rattle.network.specs.declared.Request.{Request}
-use Rattle.search.specs.Alike.{Alike}
 use Rattle.search.specs.ebf.Table.{cell, cells, filled as filledCells, initialised, improved, relaxed, offered, column, round, rounds, ebf}
 use Rattle.search.specs.ebf.Trace.{trailBack, stepBack, traced}
 use Rattle.search.specs.ebf.Solve.{pathIn, answerIn, solveIn, solve}
 use Rattle.search.specs.Distance.{spread, layer, distance}
 use Rattle.search.specs.Heuristic.{tried, search}
+use Rattle.search.specs.Result.{Alike, outcome}
 use Rattle.area.specs.Station.{Station, tableIn, station}
 use Rattle.area.specs.Books.{usage, holds, books, net}
 use Rattle.area.specs.Formed.{WellFormed}
@@ -33,27 +33,29 @@ use Rattle.area.specs.Load.{tableOf, loadAnswer, areaLoaded}
 use Rattle.area.proofs.Loads.{accepted-station, accepted-formed}
 use Rattle.area.proofs.ReadCases.{links-few}
 use Rattle.rules.specs.Requests.{requestFits}
-use Rattle.rules.specs.Replies.{Reply, refuses, grants, replyOf}
-use Rattle.rules.specs.Calls.{booksIn, numberFits, sought, admission, booked}
+use Rattle.area.specs.Refusals.{refuses}
+use Rattle.rules.specs.Replies.{PathReply, granting, answerOf, pathAfter, replyOf}
+use Rattle.rules.specs.Calls.{numberFits, sought, admission, booked}
+use Rattle.rules.specs.Meaning.{booksIn}
 use Rattle.rules.proofs.Facts.{count-is}
 use Rattle.rules.proofs.Bookings.{admitted-formed}
 use Rattle.rules.proofs.Depends.{choice-depends}
 use Rattle.rules.proofs.CallCases.{Passed, fails-12, searches}
 use Rattle.ledger.specs.Entries.{admitting}
-use Rattle.ledger.specs.History.{Lending, Event, history, replyTo, areaAfter, areaAtEnd}
-use Rattle.cases.specs.Document01.{blank, between}
+use Rattle.ledger.specs.History.{Lending, Given, of-request, pathGiven, replyTo, areaAfter, answers, areaAtEnd}
+use Rattle.cases.specs.Document01.{blank}
 use Rattle.instances.specs.Areas.{circuit, oneLink, circuitsTo, filled}
 
 -- one unit over the only link
 abbrev pub asked : Request
-asked = between 0 1 1 8 20 8
+asked = asking 0 1 1 8 20 8
 
 -- the reply to each of the admissions
-abbrev pub byLink : Reply
-byLink = grants 1 2 5 (0 ∷ [])
+abbrev pub byLink : PathReply
+byLink = granting 1 2 5 (0 ∷ [])
 
-abbrev pub Granted : List Event → Type 0
-Granted = All (λ e. e .reply ≡ byLink)
+abbrev pub Granted : List Given → Type 0
+Granted = All (λ g. g ≡ of-request (answerOf byLink) (0 ∷ []))
 
 -- ---- the circuits 1 to k
 circuits-length : (k : ℕ) → length (circuitsTo k) ≡ k
@@ -103,8 +105,8 @@ alike k low =
     usable zero l = le-leb 1 (65535 - usage (circuitsTo k) 0) (omega (arith, circuits-usage k))
     usable (suc i) l = absurd (omega (arith, l))
 
-first-found : search (net (books (holding 0)) 1) asked ≡ granted 1 (0 ∷ [])
-unfolding net books search tried solve solveIn answerIn pathIn ebf rounds round column offered relaxed improved initialised filledCells cell cells traced stepBack trailBack noted follow distance layer spread problemOne problemTwo scaled member inserted iter first
+first-found : outcome (net (books (holding 0)) 1) asked ≡ granted 1 (0 ∷ [])
+unfolding net books outcome search tried solve solveIn answerIn pathIn ebf rounds round column offered relaxed improved initialised filledCells cell cells traced stepBack trailBack noted follow distance layer spread problemOne problemTwo scaled member inserted iter first
 first-found = refl
 
 found : (k : ℕ) → k < 65535 → sought (books (holding k)) asked ≡ byLink
@@ -151,7 +153,7 @@ module _ (work room : ℕ) (memory : 16384 ≤ work) (buffer : 31 ≤ room) (k :
             (omega (arith, held, count-is (filled k))) (omega arith)
             ∙ ap (λ (s : Station). withCircuit s (circuit (suc k) 1 (0 ∷ []))) (here .is);
         formed =
-            subst (λ (a : Reply). WellFormed (booked (filled k) (suc k) 1 a)) (next-granted low)
+            subst (λ (a : PathReply). WellFormed (booked (filled k) (suc k) 1 a)) (next-granted low)
             (admitted-formed (filled k) work room (suc k) asked (here .formed));
       }
 
@@ -188,17 +190,18 @@ module _ (work room : List ℕ) (memory : 16384 ≤ length work) (buffer : 31 �
       ∙ booked-all (suc k) n (omega arith)
       ∙ ap filled e
 
-  granted-all : (k n : ℕ) → k + n ≤ 64 → Granted (history (filled k) (calls k n))
+  granted-all : (k n : ℕ) → k + n ≤ 64 → Granted (answers (filled k) (calls k n))
+  unfolding pathGiven answerOf pathAfter
   granted-all k zero low = tt
   granted-all k (suc n) low =
       let here : Reached k = reached k (omega arith) in (
-        next-granted (length work) (length room) memory buffer k here (omega arith),
-        subst (λ (w : List ℕ). Granted (history w (calls (suc k) n))) (sym (after k (omega arith) here))
+        ap (pathGiven room) (next-granted (length work) (length room) memory buffer k here (omega arith)),
+        subst (λ (w : List ℕ). Granted (answers w (calls (suc k) n))) (sym (after k (omega arith) here))
             (granted-all (suc k) n (omega arith)),
       )
 
   -- circuits 1 to 64 are granted
-  pub all-granted : Granted (history (areaLoaded blank 2 oneLink) (calls 0 64))
+  pub all-granted : Granted (answers (areaLoaded blank 2 oneLink) (calls 0 64))
   unfolding filled
   all-granted = granted-all 0 64 (omega arith)
 

@@ -3,7 +3,7 @@
 -- Assumes nothing.
 use Prim.Native.Nat.{ℕ}
 use mathlib.Core.Path.{_≡_, refl}
-use mathlib.Core.List.{List, [], _∷_, map}
+use mathlib.Core.List.{List, [], _∷_}
 use native.Mathlib.Omega.{arith}
 use lib.ListN.{length}
 use Rattle.network.proofs.Tests.{zero-one}
@@ -16,18 +16,19 @@ use Rattle.search.specs.ebf.Trace.{trailBack, stepBack, traced}
 use Rattle.search.specs.ebf.Solve.{pathIn, answerIn, solveIn, solve}
 use Rattle.search.specs.Distance.{spread, layer, distance}
 use Rattle.search.specs.Heuristic.{tried, search}
+use Rattle.search.specs.Result.{outcome}
 use Rattle.area.specs.Station.{tableIn, circuitOf}
 use Rattle.area.specs.Order.{Same}
 use Rattle.area.specs.declared.Loading.the-variants.{Loaded}
 use Rattle.area.specs.Load.{loadAnswer, areaLoaded}
 use Rattle.rules.specs.Calls.{quote, admission, booked, release, cleared}
 use Rattle.ledger.specs.Entries.{admitting, releasing}
-use Rattle.ledger.specs.History.{Lending, Event, history, answers, areaAtEnd, bookings, Struck, end, strike, keep, remaining}
+use Rattle.ledger.specs.History.{Lending, pathGiven, releaseGiven, answers, areaAtEnd, bookings, Struck, end, strike, keep, remaining}
 use Rattle.ledger.specs.Demand.{ThirdDemand}
 use Rattle.ledger.proofs.Demands.{third-demand}
 use Rattle.cases.specs.Document01.{blank, linksA, m3, three}
 use Rattle.instances.specs.Areas.{circuit}
-use Rattle.instances.specs.Calls.{work, room, calls, replies, unquoted}
+use Rattle.instances.specs.Calls.{work, room, calls, expected, unquoted}
 
 -- ---- the third demand's premise is met, so it holds of the list
 pub accepted : loadAnswer blank 4 linksA ≡ Loaded
@@ -37,14 +38,14 @@ accepted = refl
 pub demand-met : ThirdDemand blank 4 linksA calls
 demand-met = third-demand 4 linksA blank accepted calls
 
--- ---- the replies to the list, and the bookings in the end
+-- ---- the answers to the list, and the bookings in the end
 abbrev pub start : List ℕ
 start = areaLoaded blank 4 linksA
 
-pub list-replies : (map (λ (e : Event). e .reply) (history start calls) ≡ replies)
+pub list-answers : (answers start calls ≡ expected)
     × (bookings (areaAtEnd start calls) ≡ circuit 8 1 three ∷ [])
-unfolding areaLoaded quote admission booked release cleared tableIn circuitOf search tried solve solveIn answerIn pathIn ebf rounds round column offered relaxed improved initialised filled cell cells traced stepBack trailBack noted follow distance layer spread problemOne problemTwo scaled iter first
-list-replies = (refl, refl)
+unfolding areaLoaded pathGiven releaseGiven quote admission booked release cleared tableIn circuitOf outcome search tried solve solveIn answerIn pathIn ebf rounds round column offered relaxed improved initialised filled cell cells traced stepBack trailBack noted follow distance layer spread problemOne problemTwo scaled iter first
+list-answers = (refl, refl)
 
 -- ---- quotes struck
 -- six quotes are struck, and the calls that remain are lent other words

@@ -8,5 +8,9 @@ pub mod Premises
 pub mod Full
 pub mod Rules
 pub mod Histories
+pub mod Figures
+pub mod Meanings
+pub mod Refusals
+pub mod Demands
 pub mod LinkFiles
 pub mod Classes

@@ -8,23 +8,24 @@ use mathlib.Core.List.{[], _∷_}
 use mathlib.Core.Logic.{_⊎_, inl, inr}
 use native.Mathlib.Omega.{arith}
 use Rattle.network.specs.declared.Request.{Request}
-use Rattle.network.specs.Reduce.{no-solution}
+use Rattle.network.specs.Reduce.{no-solution, asking}
 use Rattle.network.proofs.Bounds.{one-distance, found-enough}
 use Rattle.search.specs.Result.{GrantedByOne, GrantedByTwo}
 use Rattle.area.specs.Station.{station, tableIn, circuitOf}
 use Rattle.area.specs.Books.{books}
 use Rattle.rules.specs.Requests.{RequestFits, requestFits}
-use Rattle.rules.specs.Replies.{refuses}
+use Rattle.area.specs.Refusals.{Passes, refuses, grants}
+use Rattle.rules.specs.Replies.{PathGrant}
 use Rattle.rules.specs.Allowed.{NumberFits}
-use Rattle.rules.specs.Calls.{booksIn, numberFits}
-use Rattle.rules.specs.Meaning.{netFor}
+use Rattle.rules.specs.Calls.{numberFits}
+use Rattle.rules.specs.Meaning.{booksIn, netFor}
 use Rattle.rules.proofs.Facts.{granted-not-refused}
 use Rattle.rules.proofs.Meaning.{request-says, number-says}
 use Rattle.ledger.specs.Entries.{quoting, opened, checks, Refuses}
-use Rattle.ledger.specs.Sentences.{Passes, Solvable, Overqualifies}
+use Rattle.ledger.specs.Sentences.{Solvable, Overqualifies}
 use Rattle.ledger.specs.Demand.{ThirdDemand, GrantedPath}
 use Rattle.ledger.proofs.Demands.{third-demand, any-quote}
-use Rattle.cases.specs.Document01.{blank, linksA, between, m3, three}
+use Rattle.cases.specs.Document01.{blank, linksA, m3, three}
 use Rattle.instances.specs.Nets.{netA, m1}
 use Rattle.instances.specs.Areas.{freshA, heldA}
 use Rattle.instances.specs.Calls.{work, room}
@@ -38,7 +39,7 @@ pub request-fits : RequestFits 4 m3
 unfolding requestFits
 request-fits = request-says 4 m3 refl
 
-pub request-unfit : RequestFits 4 (between 0 0 1 8 20 8) → ⊥
+pub request-unfit : RequestFits 4 (asking 0 0 1 8 20 8) → ⊥
 request-unfit h = h .apart refl
 
 -- circuit 7 is held
@@ -97,21 +98,27 @@ refuses-ten-only k h =
 -- it refuses M3 with none
 pub refuses-none : (k : ℕ) → Refuses (books (opened 4 linksA)) (quoting 16384 31 m3) k → ⊥
 unfolding freshA
-refuses-none k h = granted-not-refused 1 6 15 three k (sym (demand m3 .refusals .0 k .1 h) ∙ quotes .by-one)
+refuses-none k h = granted-not-refused _ k (sym (demand m3 .refusals .0 k .1 h) ∙ quotes .by-one)
 
 -- ---- the path granted for M3, with its problem and totals
-pub granted-path : GrantedPath (netFor freshA m3) m3 1 6 15 three
-granted-path = any-quote freshA 16384 31 m3 1 6 15 three (quotes .by-one)
+abbrev granted : ℕ → ℕ → ℕ → PathGrant
+granted k d x = record { problem = k; delay = d; cost = x; path = three }
 
--- not with another delay
-pub delay-invented : GrantedPath (netFor freshA m3) m3 1 7 15 three → ⊥
+pub granted-path : GrantedPath (netFor freshA m3) m3 (granted 1 6 15)
+granted-path = any-quote freshA 16384 31 m3 (granted 1 6 15) (quotes .by-one)
+
+-- not with another delay or cost
+pub delay-invented : GrantedPath (netFor freshA m3) m3 (granted 1 7 15) → ⊥
 delay-invented h = omega (arith, h .delay, granted-path .delay)
+
+pub cost-invented : GrantedPath (netFor freshA m3) m3 (granted 1 6 16) → ⊥
+cost-invented h = omega (arith, h .cost, granted-path .cost)
 
 -- nor by problem two, which counts only where problem one has no solution
 abbrev By : ℕ → Type 0
 By k = ((k ≡ 1) × GrantedByOne (netFor freshA m3) m3 three) ⊎ ((k ≡ 2) × GrantedByTwo (netFor freshA m3) m3 three)
 
-pub problem-wrong : GrantedPath (netFor freshA m3) m3 2 6 15 three → ⊥
+pub problem-wrong : GrantedPath (netFor freshA m3) m3 (granted 2 6 15) → ⊥
 problem-wrong h = go (h .least) (granted-path .least)
   where
     go : By 2 → By 1 → ⊥

@@ -1,10 +1,11 @@
--- What a search relies on can be met, and is not always met; networks that a search cannot tell apart, and some that it
+-- What a search relies on can be met, and is not always met; what its stated result says of net A; networks that a search cannot tell apart, and some that it
 -- can; a table with every link of a column settled, and one without.
 -- Assumes nothing.
 use Prim.Native.Nat.{ℕ, zero, suc, _+_, _≤_, _<_}
 use mathlib.Core.Path.{_≡_, refl, sym, ap}
 use mathlib.Core.Bool.{true≢false}
 use mathlib.Core.List.{List, [], _∷_}
+use mathlib.Core.Logic.{_⊎_, inl, inr}
 use native.Mathlib.Omega.{arith}
 use borrow.Author.Tests.{leb-true}
 use lib.Dec.{leb}
@@ -15,16 +16,16 @@ use Rattle.network.specs.Net.{Net, Ends}
 use Rattle.network.specs.Words.{netOf, LinkWords}
 use Rattle.network.specs.Scale.{scaled}
 use Rattle.network.specs.Problem.{Problem}
-use Rattle.network.specs.Reduce.{problemOne, one}
-use Rattle.search.specs.Alike.{Alike}
+use Rattle.network.specs.Reduce.{Outcome, no-path, no-solution, granted, problemOne, one, asking}
+use Rattle.network.proofs.Bounds.{one-distance}
 use Rattle.search.specs.ebf.Table.{cell, cells, number, filled, initialised, improved, relaxed, offered, column, round, rounds, ebf}
 use Rattle.search.specs.ebf.Settled.{SettledColumn}
-use Rattle.search.specs.Ready.{Ready}
-use Rattle.search.specs.Result.{Searchable}
+use Rattle.search.specs.Result.{Ready, Searchable, Unsolved, GrantedByOne, GrantedByTwo, Result, Alike}
 use Rattle.search.proofs.Result.{ready-searchable}
-use Rattle.cases.specs.Document01.{linksA, between, m3}
-use Rattle.instances.specs.Nets.{netA, shutA}
-use Rattle.instances.proofs.Problems.{links-fit}
+use Rattle.cases.specs.Document01.{linksA, m3, three}
+use Rattle.instances.specs.Nets.{netA, shutA, straight, m1, m4}
+use Rattle.instances.proofs.Paths.{three-path, distance-one, shut-no-path}
+use Rattle.instances.proofs.Problems.{links-fit, m3-solves, m3-enough, m1-none-one, m1-none-two, m4-none-one, straight-over}
 
 -- ---- the ranges and lengths
 pub link-words : LinkWords 4 4 linksA
@@ -74,8 +75,54 @@ unfolding netOf
 searchable = ready-searchable 4 4 linksA (replicate 4 1) (replicate 16384 0) (replicate 31 0) m3 ready
 
 -- not from a node to itself
-pub unsearchable : Searchable netA (between 0 0 1 8 20 8) → ⊥
+pub unsearchable : Searchable netA (asking 0 0 1 8 20 8) → ⊥
 unsearchable h = h .apart refl
+
+-- ---- the stated result: what each part of it says of any outcome o that keeps it, on net A
+module _ (o : Outcome) where
+  -- where no link is usable, that there is no path, and for M3 not
+  pub shut-nowhere : Result shutA m3 o → o ≡ no-path
+  shut-nowhere h = h .nowhere .1 shut-no-path
+
+  pub m3-somewhere : Result netA m3 o → o ≡ no-path → ⊥
+  m3-somewhere h e = h .nowhere .0 e three three-path
+
+  -- for M1 that there is no solution, and for M3 not
+  pub m1-unsolved : Result netA m1 o → o ≡ no-solution
+  m1-unsolved h = h .unsolved .1 (1, distance-one, m1-none-one, m1-none-two)
+
+  pub m3-solved : Result netA m3 o → o ≡ no-solution → ⊥
+  m3-solved h e = unsolved (h .unsolved .0 e)
+    where
+      unsolved : Unsolved netA m3 → ⊥
+      unsolved (k, far, none, nor) = let same : k ≡ 1 = one-distance netA 0 3 k 1 far distance-one in (rw same at none) three m3-solves
+
+  -- M4 is not granted by problem one, M3 not by problem two, and neither by another
+  pub m4-not-one : Result netA m4 o → (p : List ℕ) → o ≡ granted 1 p → ⊥
+  m4-not-one h p e = solved (h .by-one p e)
+    where
+      solved : GrantedByOne netA m4 p → ⊥
+      solved (k, far, best) = let same : k ≡ 1 = one-distance netA 0 3 k 1 far distance-one in m4-none-one p (rw same at (best .solves))
+
+  pub m3-not-two : Result netA m3 o → (p : List ℕ) → o ≡ granted 2 p → ⊥
+  m3-not-two h p e = unsolved (h .by-two p e)
+    where
+      unsolved : GrantedByTwo netA m3 p → ⊥
+      unsolved (k, far, none, best) = let same : k ≡ 1 = one-distance netA 0 3 k 1 far distance-one in (rw same at none) three m3-solves
+
+  pub no-third : Result netA m3 o → (p : List ℕ) → o ≡ granted 3 p → ⊥
+  no-third h p e = third 3 refl (h .no-other 3 p e)
+    where
+      third : (k : ℕ) → k ≡ 3 → (k ≡ 1) ⊎ (k ≡ 2) → ⊥
+      third k is (inl f) = omega (arith, is, f)
+      third k is (inr f) = omega (arith, is, f)
+
+  -- M3 is granted, since its path is overqualified, and not by link 3, which is over the bound of delay
+  pub m3-granted : Result netA m3 o → (which : ℕ) × (p : List ℕ) × (o ≡ granted which p)
+  m3-granted h = h .enough 1 distance-one three three-path m3-enough
+
+  pub m3-not-straight : Result netA m3 o → (which : ℕ) → o ≡ granted which straight → ⊥
+  m3-not-straight h which e = straight-over (h .within which straight e)
 
 -- ---- networks alike
 -- net A with other capacities, a word and a flag more

@@ -1,4 +1,4 @@
--- The third demand, and beside it the second: for every n, link words and area that Load accepts, and every list of
+-- The three demands. The first on any words and numbers at all; the third, and beside it the second, for every n, link words and area that Load accepts, and every list of
 -- admissions, releases and quotes, refused ones included, with work memory and path buffer of any length and contents at
 -- each call. specs/Demand.antt says what is claimed.
 -- Assumes nothing.
@@ -14,17 +14,21 @@ use Rattle.area.proofs.Order.{agrees-eq, agrees-next, agrees-sym}
 use Rattle.area.specs.declared.Loading.the-variants.{Loaded}
 use Rattle.area.specs.Load.{loadAnswer, areaLoaded}
 use Rattle.area.proofs.Loads.{accepted-station, accepted-formed}
-use Rattle.rules.specs.Replies.{Reply}
 use Rattle.rules.specs.Calls.{quote, admission}
 use Rattle.rules.specs.Meaning.{netFor}
 use Rattle.rules.proofs.Meaning.{quote-means, admission-means}
-use Rattle.ledger.specs.Entries.{Call, opened}
+use Rattle.ledger.specs.Entries.{Call, ReplyTo, opened}
 use Rattle.ledger.specs.History.{Lending, history}
-use Rattle.ledger.specs.Demand.{PathsGranted, Throughout, ThirdDemand, SecondDemand}
+use Rattle.ledger.specs.Demand.{FirstDemand, PathsGranted, Throughout, SecondDemand, ThirdDemand}
+use Rattle.ledger.proofs.Decisions.{every-call-decided}
 use Rattle.ledger.proofs.Steps.{Says}
 use Rattle.ledger.proofs.Given.{answers-given}
 use Rattle.ledger.proofs.Places.{refused-as, not-five, answered, exactly-refused, enough-granted, paths-granted, paths-past-five}
 use Rattle.ledger.proofs.Histories.{followed, ends-agree, at-every, Agreeing, struck-answers, struck-ends}
+
+-- ---- the first demand
+pub first-demand : FirstDemand
+first-demand = every-call-decided
 
 module _ (n : ℕ) (links : List ℕ) where
   -- ---- an accepted load: the ledger opens in agreement with the area, so any two such areas agree
@@ -39,7 +43,7 @@ module _ (n : ℕ) (links : List ℕ) where
     said cs = followed (areaLoaded w n links) (opened n links) formed opens cs
 
     -- what follows from the ledger's word at one place holds throughout
-    throughout : (P : Books → Call ℕ → Reply → Type 0) → ((o : Books) (q : Call ℕ) (a : Reply) → Says o q a → P o q a)
+    throughout : (P : Books → (q : Call ℕ) → ReplyTo q → Type 0) → ((o : Books) (q : Call ℕ) (a : ReplyTo q) → Says o q a → P o q a)
         → (cs : List Lending)
         → Throughout w n links cs P
     throughout P one cs = at-every P one (opened n links) (history (areaLoaded w n links) cs) (said cs)
@@ -52,7 +56,7 @@ module _ (n : ℕ) (links : List ℕ) where
         agrees = agrees-next (opens w accepted) (agrees-sym (opens v accepted'));
       }
 
-  -- ---- the demands
+  -- ---- the third demand, and the second at every place of a list
   module _ (w : List ℕ) (accepted : loadAnswer w n links ≡ Loaded) (cs : List Lending) where
     pub third-demand : ThirdDemand w n links cs
     third-demand =
@@ -79,4 +83,4 @@ module _ (w : List ℕ) (work room : ℕ) (r : Request) where
   any-quote = paths-past-five w work room r _ _ (quote-means w work room r)
 
   pub any-admission : (c : ℕ) → PathsGranted (netFor w r) r (admission w work room c r)
-  any-admission c = paths-past-five w work room r _ _ (admission-means w work room c r)
+  any-admission c = paths-past-five w work room r _ _ (admission-means w work room r c)

@@ -6,22 +6,31 @@ use mathlib.Core.Path.{_≡_, refl, sym, ap, ap₂, _∙_}
 use mathlib.Core.List.{List, [], _∷_, map}
 use lib.ListN.{length, drop}
 use lib.Seq.{take-append-seam}
-use Rattle.rules.specs.Replies.{Reply, refuses, grants, releases, answerOf}
-use Rattle.ledger.specs.History.{Lending, buffer, given, givenBy, Event, replyTo, areaAfter, history, answers}
+use Rattle.area.specs.Refusals.{refuses, grants}
+use Rattle.rules.specs.Replies.{PathReply, answerOf, pathOf}
+use Rattle.ledger.specs.Entries.{Call, quoting, admitting, releasing, ReplyTo}
+use Rattle.ledger.specs.History.{Lending, measured, buffer, of-request, pathGiven, given, givenBy, Event, replyTo, areaAfter, history, answers}
 
 -- the first l words are the granted path, l being the number of links that is answered
-pub given-is : (room : List ℕ) (a : Reply) → given room a ≡ givenBy a
-unfolding given
-given-is room (refuses k) = refl
-given-is room (grants k d x p) =
-    ap (λ (l : List ℕ). record { numbers = answerOf (grants k d x p); words = l }) (take-append-seam p (drop (length p) room))
-given-is room releases = refl
+path-given : (room : List ℕ) (a : PathReply) → pathGiven room a ≡ of-request (answerOf a) (pathOf a)
+unfolding pathGiven
+path-given room (refuses k) = refl
+path-given room (grants g) = ap (of-request (answerOf (grants g))) (take-append-seam (g .path) (drop (length (g .path)) room))
 
--- equal replies give equal answers, whatever the path buffers held
-pub given-alike : (room room' : List ℕ) {a b : Reply} → a ≡ b → given room a ≡ given room' b
-given-alike room room' {a} {b} e = given-is room a ∙ ap givenBy e ∙ sym (given-is room' b)
+pub given-is : (room : List ℕ) (q : Call ℕ) (a : ReplyTo q) → given room q a ≡ givenBy q a
+given-is room (quoting work len r) a = path-given room a
+given-is room (admitting work len c r) a = path-given room a
+given-is room (releasing c) a = refl
+
+-- equal calls with equal replies give equal answers, whatever the path buffers held
+pub given-alike : (room room' : List ℕ) {d e : Event} → d ≡ e → given room (d .call) (d .reply) ≡ given room' (e .call) (e .reply)
+given-alike room room' {d = d} {e = e} same =
+    given-is room (d .call) (d .reply)
+    ∙ ap (λ (f : Event). givenBy (f .call) (f .reply)) same
+    ∙ sym (given-is room' (e .call) (e .reply))
 
 -- each answer of a list is what its reply says
-pub answers-given : (w : List ℕ) (cs : List Lending) → answers w cs ≡ map (λ (e : Event). givenBy (e .reply)) (history w cs)
+pub answers-given : (w : List ℕ) (cs : List Lending)
+    → answers w cs ≡ map (λ (e : Event). givenBy (e .call) (e .reply)) (history w cs)
 answers-given w [] = refl
-answers-given w (c ∷ cs) = ap₂ _∷_ (given-is (buffer c) (replyTo w c)) (answers-given (areaAfter w c) cs)
+answers-given w (c ∷ cs) = ap₂ _∷_ (given-is (buffer c) (measured c) (replyTo w c)) (answers-given (areaAfter w c) cs)

@@ -10,16 +10,15 @@ use Rattle.area.specs.Books.{Books, books}
 use Rattle.area.specs.Formed.{WellFormed}
 use Rattle.area.specs.Order.{Agrees, skip}
 use Rattle.area.proofs.Order.{agrees-next, agrees-sym, books-agree, without-same}
-use Rattle.rules.specs.Replies.{Reply}
-use Rattle.ledger.specs.Entries.{Call, quoting, admitting, releasing, told, Ledger, moved}
-use Rattle.ledger.specs.History.{Lending, measured, replyTo, areaAfter, buffer, Event, history, answers, areaAtEnd, atEnd, Struck, end, strike, keep, remaining}
+use Rattle.ledger.specs.Entries.{Call, quoting, admitting, releasing, ReplyTo, told, Ledger, moved}
+use Rattle.ledger.specs.History.{Lending, measured, replyTo, areaAfter, buffer, Event, event, history, answers, areaAtEnd, after, atEnd, Struck, end, strike, keep, remaining}
 use Rattle.ledger.specs.Sentences.{AtEvery}
 use Rattle.ledger.proofs.Given.{given-alike}
-use Rattle.ledger.proofs.Steps.{Says, says, moves, keeps, replies-alike}
+use Rattle.ledger.proofs.Steps.{Says, says, moves, keeps, events-alike}
 
 -- ---- the same entries in any order
 -- what the ledger says goes by its books
-says-agree : (l m : Ledger) (q : Call ℕ) (a : Reply) → Agrees l m → Says (books l) q a → Says (books m) q a
+says-agree : (l m : Ledger) (q : Call ℕ) (a : ReplyTo q) → Agrees l m → Says (books l) q a → Says (books m) q a
 says-agree l m q a agrees = subst (λ (o : Books). Says o q a) (books-agree agrees)
 
 -- and it moves alike
@@ -32,7 +31,7 @@ moved-agree (releasing c) path l m h = record { table = h .table; held = without
 -- ---- the ledger beside the area
 -- one call keeps them in agreement
 next-agrees : (w : List ℕ) (l : Ledger) → WellFormed w → Agrees (station w) l → (c : Lending)
-    → Agrees (station (areaAfter w c)) (moved l (measured c) (told (measured c) (replyTo w c)))
+    → Agrees (station (areaAfter w c)) (after l (event w c))
 next-agrees w l formed agrees c =
     agrees-next (moves w formed c) (moved-agree (measured c) (told (measured c) (replyTo w c)) (station w) l agrees)
 
@@ -49,7 +48,7 @@ ends-agree w l formed agrees [] = agrees
 ends-agree w l formed agrees (c ∷ cs) = ends-agree (areaAfter w c) _ (keeps w formed c) (next-agrees w l formed agrees c) cs
 
 -- what follows from the ledger's word at one place holds at every place
-pub at-every : (P : Books → Call ℕ → Reply → Type 0) → ((o : Books) (q : Call ℕ) (a : Reply) → Says o q a → P o q a)
+pub at-every : (P : Books → (q : Call ℕ) → ReplyTo q → Type 0) → ((o : Books) (q : Call ℕ) (a : ReplyTo q) → Says o q a → P o q a)
     → (l : Ledger) (es : List Event) → AtEvery Says l es
     → AtEvery P l es
 at-every P one l [] h = tt
@@ -63,8 +62,8 @@ pub record Agreeing (w v : List ℕ) : Type 0 where
   pub agrees : Agrees (station w) (station v)
 
 module _ (w v : List ℕ) (t : Agreeing w v) (c d : Lending) (same : measured c ≡ measured d) where
-  alike : replyTo w c ≡ replyTo v d
-  alike = replies-alike w v (t .first) (t .second) (t .agrees) c d same
+  alike : event w c ≡ event v d
+  alike = events-alike w v (t .first) (t .second) (t .agrees) c d same
 
   -- a call that remains leaves them so
   agreeing-next : Agreeing (areaAfter w c) (areaAfter v d)
@@ -74,7 +73,7 @@ module _ (w v : List ℕ) (t : Agreeing w v) (c d : Lending) (same : measured c 
         second = keeps v (t .second) d;
         agrees =
             agrees-next (next-agrees w (station v) (t .first) (t .agrees) c)
-            (agrees-sym (rw (same, alike) (moves v (t .second) d)));
+            (agrees-sym (subst (λ (e : Event). Agrees (station (areaAfter v d)) (after (station v) e)) (sym alike) (moves v (t .second) d)));
       }
 
 pub struck-answers : (w v : List ℕ) → Agreeing w v → {cs ds : List Lending} (s : Struck cs ds) → answers v ds ≡ remaining s (answers w cs)

@@ -1,8 +1,8 @@
-mod Answers
 mod Searches
 mod Steps
 mod Places
 mod Given
 mod Histories
 pub mod Striking
+mod Decisions
 pub mod Demands

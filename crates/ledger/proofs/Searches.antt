@@ -2,43 +2,31 @@
 -- a path is overqualified, and a granted path meets both bounds.
 -- Assumes nothing.
 use Prim.Native.Nat.{ℕ, _*_, _<_}
-use mathlib.Core.Path.{refl, sym, _∙_, subst}
-use mathlib.Core.Bool.{true≢false}
+use mathlib.Core.Path.{_≡_, refl, sym, subst}
 use mathlib.Core.List.{List}
-use mathlib.Core.Logic.{inl, inr, _↔_}
-use Rattle.network.specs.Net.{Net}
+use mathlib.Core.Logic.{_⊎_, inl, inr, _↔_}
+use Rattle.network.specs.Net.{Net, IsPath}
 use Rattle.network.specs.Problem.{Solves, Distance}
-use Rattle.network.specs.Reduce.{delayBound, costBound, one, two}
+use Rattle.network.specs.Reduce.{delayBound, costBound, one, two, WithinBounds}
 use Rattle.network.specs.declared.Request.{Request}
-use Rattle.network.proofs.Tests.{by-bool}
 use Rattle.network.proofs.Bounds.{x-positive, one-distance, solution-one-within, solution-two-within, overqualified-solves-one, overqualified-solves-two}
-use Rattle.search.specs.Result.{Unsolved}
-use Rattle.rules.specs.Requests.{RequestFits, requestFits}
-use Rattle.rules.specs.Replies.{Reply, grants}
-use Rattle.rules.specs.Allowed.{Answered, Grant, by-one, by-two, searchRules}
+use Rattle.search.specs.Result.{Unsolved, GrantedByOne, GrantedByTwo}
+use Rattle.area.specs.Refusals.{refuses, grants, IsRefused, IsGranted, Answered}
+use Rattle.rules.specs.Requests.{RequestFits}
+use Rattle.rules.specs.Replies.{PathGrant, PathReply}
+use Rattle.rules.specs.Allowed.{Grant, searchRules}
 use Rattle.rules.proofs.Facts.{granted-not-refused}
-use Rattle.rules.proofs.Meaning.{request-says, request-test}
-use Rattle.ledger.specs.Sentences.{IsRefused, IsGranted, Solvable, Overqualifies}
+use Rattle.ledger.specs.Sentences.{Solvable, Overqualifies}
 use Rattle.ledger.specs.Demand.{GrantedPath}
-
--- a request fits or does not, by its test
-pub request-fits : (n : ℕ) (r : Request) → ((RequestFits n r → ⊥) → ⊥) → RequestFits n r
-request-fits n r h =
-    by-bool (requestFits n r) (request-says n r) (λ e. absurd (h (λ fits. true≢false (sym (request-test n r fits) ∙ e))))
 
 module _ (g : Net) (r : Request) where
   -- ---- grants
-  pub grant-proper : (a : Reply) → Grant g r a → IsRefused a → ⊥
-  grant-proper a (by-one p h) (k, e) = granted-not-refused _ _ _ _ k (sym e)
-  grant-proper a (by-two p h) (k, e) = granted-not-refused _ _ _ _ k (sym e)
-
-  grant-granted : (a : Reply) → Grant g r a → IsGranted a
-  grant-granted a (by-one p h) = (1, _, _, p, refl)
-  grant-granted a (by-two p h) = (2, _, _, p, refl)
-
-  grant-solvable : (a : Reply) → Grant g r a → Solvable g r
-  grant-solvable a (by-one p h) = (h .0, h .1, (p, inl (h .2 .solves)))
-  grant-solvable a (by-two p h) = (h .0, h .1, (p, inr (h .3 .solves)))
+  grant-solvable : (a : PathGrant) → Grant g r a → Solvable g r
+  grant-solvable a h = go (h .least)
+    where
+      go : ((a .problem ≡ 1) × GrantedByOne g r (a .path)) ⊎ ((a .problem ≡ 2) × GrantedByTwo g r (a .path)) → Solvable g r
+      go (inl (e, b)) = (b .0, b .1, (a .path, inl (b .2 .solves)))
+      go (inr (e, b)) = (b .0, b .1, (a .path, inr (b .3 .solves)))
 
   -- ---- refusals
   unsolvable : Unsolved g r → Solvable g r → ⊥
@@ -48,12 +36,12 @@ module _ (g : Net) (r : Request) where
       nor p (subst (λ (m : ℕ). Solves g (two g r m) (r .source) (r .target) p) (one-distance g _ _ l k far' far) h)
 
   -- refused exactly when no usable path solves either problem
-  pub search-exactly : (a : Reply) → Answered (Grant g r) (searchRules g r) a → IsRefused a ↔ (Solvable g r → ⊥)
-  unfolding Answered
-  search-exactly a (inl (none, e)) = (λ _ s. none (s .1 .reached .0) (s .1 .reached .1), λ _. (9, e))
-  search-exactly a (inr (_, inl (none, e))) = (λ _. unsolvable none, λ _. (10, e))
-  search-exactly a (inr (_, inr (_, grant))) =
-      (λ refused. absurd (grant-proper a grant refused), λ none. absurd (none (grant-solvable a grant)))
+  pub search-exactly : (a : PathReply) → Answered (Grant g r) (searchRules g r) a → IsRefused a ↔ (Solvable g r → ⊥)
+  search-exactly (refuses k) (inl (none, e)) = (λ _ s. none (s .1 .reached .0) (s .1 .reached .1), λ _. (k, refl))
+  search-exactly (refuses k) (inr (_, inl (none, e))) = (λ _. unsolvable none, λ _. (k, refl))
+  search-exactly (refuses k) (inr (_, inr (_, h))) = absurd h
+  search-exactly (grants b) h =
+      (λ refused. absurd (granted-not-refused b (refused .0) (sym (refused .1))), λ none. absurd (none (grant-solvable b (h .1))))
 
   module _ (D : 0 < delayBound r) (C : 0 < costBound r) where
     -- Theorem 2
@@ -64,33 +52,33 @@ module _ (g : Net) (r : Request) where
         (k, far, (p, inr (overqualified-solves-two g r (r .coefficient * k) p path (h .0) (h .1) D)))
 
     -- an overqualified path is always enough
-    pub search-enough : (a : Reply) → Answered (Grant g r) (searchRules g r) a → Overqualifies g r → IsGranted a
-    unfolding Answered
-    search-enough a (inl (none, e)) o = absurd (none (o .2 .0) (o .2 .1))
-    search-enough a (inr (_, inl (none, e))) o = absurd (unsolvable none (overqualified-solvable o))
-    search-enough a (inr (_, inr (_, grant))) o = grant-granted a grant
+    pub search-enough : (a : PathReply) → Answered (Grant g r) (searchRules g r) a → Overqualifies g r → IsGranted a
+    search-enough (refuses k) (inl (none, e)) o = absurd (none (o .2 .0) (o .2 .1))
+    search-enough (refuses k) (inr (_, inl (none, e))) o = absurd (unsolvable none (overqualified-solvable o))
+    search-enough (refuses k) (inr (_, inr (_, h))) o = absurd h
+    search-enough (grants b) h o = (b, refl)
 
   module _ (n : ℕ) (fits : RequestFits n r) where
     x-some : (k : ℕ) → Distance g (r .source) (r .target) k → 0 < r .coefficient * k
     x-some k far = x-positive g (r .source) (r .target) k (r .coefficient) (fits .apart) (fits .coefficient-least) far
 
+    -- a best solution of either problem is a path within both bounds
+    by-either : (p : List ℕ) (k : ℕ) → ((k ≡ 1) × GrantedByOne g r p) ⊎ ((k ≡ 2) × GrantedByTwo g r p)
+        → IsPath g (r .source) (r .target) p × WithinBounds g r p
+    by-either p k (inl (e, h)) =
+        (h .2 .solves .path, solution-one-within g r (r .coefficient * h .0) p (x-some (h .0) (h .1)) (fits .cost-least) (h .2 .solves))
+    by-either p k (inr (e, h)) =
+        (h .3 .solves .path, solution-two-within g r (r .coefficient * h .0) p (x-some (h .0) (h .1)) (fits .delay-least) (h .3 .solves))
+
     -- the second demand, of one granted path
-    pub grant-path-granted : {k d x : ℕ} {p : List ℕ} → Grant g r (grants k d x p) → GrantedPath g r k d x p
-    grant-path-granted (by-one p h) =
+    pub grant-path-granted : (a : PathGrant) → Grant g r a → GrantedPath g r a
+    grant-path-granted a h =
+        let so = by-either (a .path) (a .problem) (h .least) in
         record {
-          runs = h .2 .solves .path .walk;
-          once = h .2 .solves .path .distinct;
-          bounds = solution-one-within g r (r .coefficient * h .0) p (x-some (h .0) (h .1)) (fits .cost-least) (h .2 .solves);
-          least = inl (refl, h);
-          delay = refl;
-          cost = refl;
-        }
-    grant-path-granted (by-two p h) =
-        record {
-          runs = h .3 .solves .path .walk;
-          once = h .3 .solves .path .distinct;
-          bounds = solution-two-within g r (r .coefficient * h .0) p (x-some (h .0) (h .1)) (fits .delay-least) (h .3 .solves);
-          least = inr (refl, h);
-          delay = refl;
-          cost = refl;
+          runs = so .0 .walk;
+          once = so .0 .distinct;
+          bounds = so .1;
+          least = h .least;
+          delay = h .delay;
+          cost = h .cost;
         }

@@ -6,7 +6,7 @@ use mathlib.Core.Path.{_≡_, refl, ap}
 use mathlib.Core.Bool.{Bool, true, false}
 use mathlib.Core.List.{List, [], _∷_}
 use Rattle.ledger.specs.Entries.{quoting, admitting, releasing}
-use Rattle.ledger.specs.History.{Lending, replyTo, areaAfter, buffer, Given, given, answers, Struck, end, strike, keep, remaining}
+use Rattle.ledger.specs.History.{Lending, measured, replyTo, areaAfter, buffer, Given, given, answers, Struck, end, strike, keep, remaining}
 
 -- the calls of a list without the quotes that were chosen, one choice for each call; past the choices all remain
 abbrev chosen : List Bool → List Lending → List Lending
@@ -33,4 +33,4 @@ none-struck (c ∷ cs) = keep refl (none-struck cs)
 pub all-remain : (w : List ℕ) (cs : List Lending) → remaining (none-struck cs) (answers w cs) ≡ answers w cs
 unfolding none-struck
 all-remain w [] = refl
-all-remain w (c ∷ cs) = ap (λ (l : List Given). given (buffer c) (replyTo w c) ∷ l) (all-remain (areaAfter w c) cs)
+all-remain w (c ∷ cs) = ap (λ (l : List Given). given (buffer c) (measured c) (replyTo w c) ∷ l) (all-remain (areaAfter w c) cs)

@@ -3,9 +3,7 @@
 -- answers, only the paths of granted admissions.
 -- Assumes nothing.
 use Prim.Native.Nat.{ℕ}
-use mathlib.Core.Path.{_≡_}
-use mathlib.Core.List.{List, [], _∷_, _++_}
-use mathlib.Core.Logic.{_⊎_}
+use mathlib.Core.List.{List, [], _++_}
 use mathlib.Core.Option.{Option, none, some}
 use Rattle.network.specs.Net.{Net}
 use Rattle.network.specs.declared.Request.{Request}
@@ -13,8 +11,9 @@ use Rattle.area.specs.Station.{Circuit, Station}
 use Rattle.area.specs.Books.{Books, net}
 use Rattle.area.specs.Moves.{withCircuit, withoutNumber}
 use Rattle.area.specs.Load.{tableOf}
-use Rattle.rules.specs.Replies.{Reply, refuses, grants, releases}
-use Rattle.rules.specs.Allowed.{Rule, Grant, requestRules, numberRules, searchRules, releaseRules}
+use Rattle.area.specs.Refusals.{Rule, FirstApplies, Reply, refuses, grants}
+use Rattle.rules.specs.Replies.{PathGrant}
+use Rattle.rules.specs.Allowed.{Grant, requestRules, numberRules, searchRules, releaseRules}
 
 -- ---- what it is fed
 -- A call: its numbers and, where it takes them, work memory and path buffer. The ledger is fed the lengths of these
@@ -24,12 +23,22 @@ pub data Call (Lent : Type 0) : Type 0 where
   admitting : (work room : Lent) → (number : ℕ) → Request → Call Lent
   releasing : (number : ℕ) → Call Lent
 
+-- what a call is granted: a quote and an admission a path with its problem, delay and cost; a release that the circuit
+-- goes, and nothing besides
+abbrev pub Granting : Call ℕ → Type 0
+Granting (quoting work room r) = PathGrant
+Granting (admitting work room c r) = PathGrant
+Granting (releasing c) = Unit {0}
+
+-- a call's reply: refused with a number, or granted that
+abbrev pub ReplyTo : Call ℕ → Type 0
+ReplyTo q = Reply (Granting q)
+
 -- of an answer: the path, where it grants an admission
-abbrev pub told : Call ℕ → Reply → Option (List ℕ)
+abbrev pub told : (q : Call ℕ) → ReplyTo q → Option (List ℕ)
 told (quoting work room r) a = none
 told (admitting work room c r) (refuses k) = none
-told (admitting work room c r) (grants k d x p) = some p
-told (admitting work room c r) releases = none
+told (admitting work room c r) (grants g) = some (g .path)
 told (releasing c) a = none
 
 -- ---- what it holds
@@ -66,20 +75,15 @@ searches o (releasing c) = []
 abbrev pub rules : Books → Call ℕ → List Rule
 rules o q = checks o q ++ searches o q
 
--- k is the number of the first rule that applies
-abbrev pub FirstApplies : List Rule → ℕ → Type 0
-FirstApplies [] k = ⊥
-FirstApplies (r ∷ rs) k = (r .applies × (k ≡ r .number)) ⊎ ((r .applies → ⊥) × FirstApplies rs k)
-
 -- the ledger refuses a call with k
 abbrev pub Refuses : Books → Call ℕ → ℕ → Type 0
 Refuses o q k = FirstApplies (rules o q) k
 
--- what an answer must be where it is no refusal
-abbrev pub Grants : Books → Call ℕ → Reply → Type 0
-Grants o (quoting work room r) a = Grant (seen o r) r a
-Grants o (admitting work room c r) a = Grant (seen o r) r a
-Grants o (releasing c) a = a ≡ releases
+-- what must be granted where no rule applies
+abbrev pub Grants : Books → (q : Call ℕ) → Granting q → Type 0
+Grants o (quoting work room r) g = Grant (seen o r) r g
+Grants o (admitting work room c r) g = Grant (seen o r) r g
+Grants o (releasing c) g = Unit {0}
 
 -- ---- how the entries move
 abbrev pub entry : ℕ → Request → List ℕ → Circuit

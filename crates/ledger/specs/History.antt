@@ -7,11 +7,12 @@ use mathlib.Core.List.{List, [], _∷_}
 use lib.ListN.{length, take}
 use Rattle.network.specs.declared.Request.{Request}
 use Rattle.area.specs.Station.{Circuit, station}
-use Rattle.rules.specs.declared.Answer.{Answer}
-use Rattle.rules.specs.declared.Answer.the-variants.{Refused, Granted, Released}
-use Rattle.rules.specs.Replies.{Reply, refuses, grants, releases, answerOf, pathAfter}
+use Rattle.rules.specs.declared.RequestAnswer.{RequestAnswer}
+use Rattle.rules.specs.declared.RequestAnswer.the-variants.{Refused, Granted}
+use Rattle.rules.specs.declared.ReleaseAnswer.{ReleaseAnswer}
+use Rattle.rules.specs.Replies.{PathReply, answerOf, pathOf, pathAfter, ReleaseReply, releaseAnswerOf}
 use Rattle.rules.specs.Calls.{quote, admission, booked, release, cleared}
-use Rattle.ledger.specs.Entries.{Call, quoting, admitting, releasing, told, Ledger, moved}
+use Rattle.ledger.specs.Entries.{Call, quoting, admitting, releasing, ReplyTo, told, Ledger, moved}
 
 -- a call with the words that it is lent, as they stand before it
 abbrev pub Lending : Type 0
@@ -25,7 +26,7 @@ measured (releasing c) = releasing c
 
 -- ---- one call on an area
 -- the reply that the contract of its call gives
-abbrev pub replyTo : List ℕ → Lending → Reply
+abbrev pub replyTo : List ℕ → (c : Lending) → ReplyTo (measured c)
 replyTo w (quoting work room r) = quote w (length work) (length room) r
 replyTo w (admitting work room c r) = admission w (length work) (length room) c r
 replyTo w (releasing c) = release w c
@@ -44,45 +45,60 @@ buffer (admitting work room c r) = room
 buffer (releasing c) = []
 
 -- how many links the code's answer counts
-abbrev pub linksOf : Answer → ℕ
+abbrev pub linksOf : RequestAnswer → ℕ
 linksOf (Refused k) = 0
 linksOf (Granted g) = g .links
-linksOf Released = 0
 
--- document 01's answer: the numbers, and the l words that a grant writes in the path buffer
-pub record Given : Type 0 where
-  pub numbers : Answer
-  pub words : List ℕ
+-- document 01's answer: of a quote or an admission the numbers, and the l words that a grant writes in the path buffer; of
+-- a release its numbers
+pub data Given : Type 0 where
+  of-request : (numbers : RequestAnswer) → (words : List ℕ) → Given
+  of-release : (numbers : ReleaseAnswer) → Given
 
--- of a call that is lent the path buffer `room` and has the reply a: the code's answer and the first l words of the
--- path buffer after, both as the contracts say
-unfoldable pub given : List ℕ → Reply → Given
+-- of a quote or an admission that is lent the path buffer `room` and has the reply a: the code's answer and the first l
+-- words of the path buffer after, both as the contracts say
+unfoldable pub pathGiven : List ℕ → PathReply → Given
 unfolding answerOf pathAfter
-given room a = record { numbers = answerOf a; words = take (linksOf (answerOf a)) (pathAfter a room) }
+pathGiven room a = of-request (answerOf a) (take (linksOf (answerOf a)) (pathAfter a room))
+
+-- of a release
+unfoldable pub releaseGiven : ReleaseReply → Given
+unfolding releaseAnswerOf
+releaseGiven a = of-release (releaseAnswerOf a)
+
+abbrev pub given : List ℕ → (q : Call ℕ) → ReplyTo q → Given
+given room (quoting work len r) a = pathGiven room a
+given room (admitting work len c r) a = pathGiven room a
+given room (releasing c) a = releaseGiven a
+
+-- of a call on an area
+abbrev pub givenTo : List ℕ → Lending → Given
+givenTo w c = given (buffer c) (measured c) (replyTo w c)
 
 -- what the reply alone says: its numbers, and the words of the path that it grants
-abbrev pub pathOf : Reply → List ℕ
-pathOf (refuses k) = []
-pathOf (grants k d x p) = p
-pathOf releases = []
-
-abbrev pub givenBy : Reply → Given
-givenBy a = record { numbers = answerOf a; words = pathOf a }
+abbrev pub givenBy : (q : Call ℕ) → ReplyTo q → Given
+givenBy (quoting work len r) a = of-request (answerOf a) (pathOf a)
+givenBy (admitting work len c r) a = of-request (answerOf a) (pathOf a)
+givenBy (releasing c) a = releaseGiven a
 
 -- ---- a list of calls
 pub record Event : Type 0 where
   pub call : Call ℕ
-  pub reply : Reply
+  pub reply : ReplyTo call
 
--- each call with its reply
+-- a call on an area, with its reply
+abbrev pub event : List ℕ → Lending → Event
+event w c = record { call = measured c; reply = replyTo w c }
+
+-- each call of a list
 abbrev pub history : List ℕ → List Lending → List Event
 history w [] = []
-history w (c ∷ cs) = record { call = measured c; reply = replyTo w c } ∷ history (areaAfter w c) cs
+history w (c ∷ cs) = event w c ∷ history (areaAfter w c) cs
 
 -- the answers, one for each call
 abbrev pub answers : List ℕ → List Lending → List Given
 answers w [] = []
-answers w (c ∷ cs) = given (buffer c) (replyTo w c) ∷ answers (areaAfter w c) cs
+answers w (c ∷ cs) = givenTo w c ∷ answers (areaAfter w c) cs
 
 abbrev pub areaAtEnd : List ℕ → List Lending → List ℕ
 areaAtEnd w [] = w

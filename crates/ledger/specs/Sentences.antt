@@ -1,8 +1,6 @@
--- The words that the demands are said with: of a reply, of the rules, of the network that a request sees, and of a
--- place in a list of calls.
+-- The words that the demands are said with: of the network that a request sees, and of a place in a list of calls.
 -- Assumes nothing.
 use Prim.Native.Nat.{ℕ}
-use mathlib.Core.Path.{_≡_}
 use mathlib.Core.List.{List, [], _∷_}
 use mathlib.Core.Logic.{_⊎_}
 use Rattle.network.specs.Net.{Net, IsPath}
@@ -10,21 +8,9 @@ use Rattle.network.specs.Problem.{Solves, Distance}
 use Rattle.network.specs.Reduce.{one, two, Enough}
 use Rattle.network.specs.declared.Request.{Request}
 use Rattle.area.specs.Books.{Books, books}
-use Rattle.rules.specs.Replies.{Reply, refuses, grants}
-use Rattle.rules.specs.Allowed.{Rule}
-use Rattle.ledger.specs.Entries.{Call, quoting, admitting, releasing, Ledger, seen}
+use Rattle.rules.specs.Replies.{PathReply}
+use Rattle.ledger.specs.Entries.{Call, quoting, admitting, releasing, ReplyTo, Ledger, seen}
 use Rattle.ledger.specs.History.{Event, after}
-
-abbrev pub IsRefused : Reply → Type 0
-IsRefused a = (k : ℕ) × (a ≡ refuses k)
-
-abbrev pub IsGranted : Reply → Type 0
-IsGranted a = (k : ℕ) × (d : ℕ) × (x : ℕ) × (p : List ℕ) × (a ≡ grants k d x p)
-
--- no rule of the list applies
-abbrev pub Passes : List Rule → Type 0
-Passes [] = Unit
-Passes (r ∷ rs) = (r .applies → ⊥) × Passes rs
 
 module _ (g : Net) (r : Request) where
   -- the request's nodes are at distance k, so x is the coefficient times k
@@ -42,12 +28,12 @@ module _ (g : Net) (r : Request) where
   Overqualifies = (k : ℕ) × AtDistance k × ((p : List ℕ) × IsPath g (r .source) (r .target) p × Enough g r k p)
 
 -- P holds at every place of a list: of the ledger's books as they stand there, the call and its answer
-abbrev pub AtEvery : (Books → Call ℕ → Reply → Type 0) → Ledger → List Event → Type 0
+abbrev pub AtEvery : (Books → (q : Call ℕ) → ReplyTo q → Type 0) → Ledger → List Event → Type 0
 AtEvery P l [] = Unit
 AtEvery P l (e ∷ es) = P (books l) (e .call) (e .reply) × AtEvery P (after l e) es
 
 -- P holds where a call is a quote or an admission: of the network that its request sees, the request and the answer
-abbrev pub OfRequest : (Net → Request → Reply → Type 0) → Books → Call ℕ → Reply → Type 0
+abbrev pub OfRequest : (Net → Request → PathReply → Type 0) → Books → (q : Call ℕ) → ReplyTo q → Type 0
 OfRequest P o (quoting work room r) a = P (seen o r) r a
 OfRequest P o (admitting work room c r) a = P (seen o r) r a
 OfRequest P o (releasing c) a = Unit

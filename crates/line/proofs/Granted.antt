@@ -1,81 +1,74 @@
--- What a C caller relies on: a call gives 0 only where it was granted. A call is refused by the first check that it
--- fails, and every check's number is over 0; the route search refuses with 9 or 10, and a class with 16. That a grant
--- gives 0 is how the codes are defined.
+-- What a C caller relies on: a call gives 0 only where it was granted, and else the number of a refusal that left the answer
+-- array as it was. A refusal by a call's checks has a number over 0 by the definition of `checked`; every rule by which
+-- quote, admission, release and listing are refused has one; and a class is refused with 16. That a grant gives 0 is how the
+-- codes are defined.
 -- Assumes nothing.
-use Prim.Native.Nat.{ℕ, _<_}
-use mathlib.Core.Path.{_≡_, refl}
+use Prim.Native.Nat.{ℕ, zero, suc, _<_}
+use mathlib.Core.Path.{_≡_, refl, sym, subst}
 use mathlib.Core.Bool.{Bool, true, _&&_}
-use mathlib.Core.List.{List, [], _∷_}
+use mathlib.Core.List.{List, [], _∷_, _++_}
+use mathlib.Core.Logic.{inl, inr}
 use native.Mathlib.Omega.{arith}
 use lib.Dec.{ltb, leb}
-use lib.ListN.{getD}
+use lib.ListN.{length, getD}
 use borrow.Author.Tests.{ltb-true}
 use Rattle.network.specs.declared.Request.{Request}
-use Rattle.network.specs.Net.{Net}
-use Rattle.network.specs.Reduce.{Outcome, no-path, no-solution, granted}
-use Rattle.search.specs.Heuristic.{search}
-use Rattle.network.proofs.Tests.{by-test, fst-of, snd-of}
-use Rattle.area.specs.Station.{station, linksIn, heldIn}
-use Rattle.area.specs.Books.{Books, free, net}
-use Rattle.area.specs.Formed.{wellFormed}
-use Rattle.area.specs.Checks.{Check, _unless_, checked}
+use Rattle.network.specs.declared.Grant.{Grant as Numbers}
+use Rattle.network.proofs.Tests.{by-test, fst-of, snd-of, zero-one}
+use Rattle.area.specs.Station.{station}
+use Rattle.area.specs.Books.{free}
+use Rattle.area.specs.Held.{ListsHeld}
+use Rattle.area.specs.Formed.{WellFormed}
+use Rattle.area.specs.Refusals.{Rule, _when_, FirstApplies, Reply, refuses, grants, Answered}
+use Rattle.area.specs.Checks.{Check, firstFailing, unlessRefused, checked}
 use Rattle.area.specs.declared.Loading.{Loading}
 use Rattle.area.specs.declared.Loading.the-variants as loading
 use Rattle.area.specs.declared.Reading.{Reading}
 use Rattle.area.specs.declared.Reading.the-variants as reading
 use Rattle.area.specs.Load.{loadChecks, loadAnswer}
-use Rattle.area.specs.Reads.{listChecks, listAnswer, freeAnswer}
+use Rattle.area.specs.Reads.{countOf, listRules, ListMeans, freeChecks, freeAnswer}
+use Rattle.rules.specs.declared.RequestAnswer.{RequestAnswer}
+use Rattle.rules.specs.declared.RequestAnswer.the-variants as request
+use Rattle.rules.specs.declared.ReleaseAnswer.{ReleaseAnswer}
+use Rattle.rules.specs.declared.ReleaseAnswer.the-variants as release
 use Rattle.rules.specs.declared.ClassAnswer.{ClassAnswer}
 use Rattle.rules.specs.declared.ClassAnswer.the-variants as class
 use Rattle.rules.specs.Classes.{asks, rows, classAnswer}
+use Rattle.rules.specs.Replies.{PathGrant, PathReply, answerOf, ReleaseReply, releaseAnswerOf}
+use Rattle.rules.specs.Allowed.{Grant, searchRules, numberRules, releaseRules}
+use Rattle.rules.specs.Meaning.{booksIn, quoteRules, netFor, Cleared, QuoteMeans, AdmissionMeans, ReleaseMeans}
 use Rattle.link_format.specs.declared.Size.{Size}
 use Rattle.link_format.specs.declared.Reading.{Reading as FileReading}
 use Rattle.link_format.specs.declared.Reading.the-variants as file
 use Rattle.link_format.specs.Reading.{readChecks, readAnswer, linksIn as fileLinks, nodesIn}
-use Rattle.rules.specs.Replies.{Reply, refuses, grants, releases, answerOf, replyOf}
-use Rattle.rules.specs.Calls.{booksIn, sought, quoteChecks, admitChecks, releaseChecks, quote, admission, release}
-use Rattle.line.specs.Codes.{answerCode, loadCode, readingCode, classCode, fileCode}
+use Rattle.line.specs.Codes.{answerCode, grantWords, releaseCode, loadCode, readingCode, valueWord, classCode, fileCode}
+use Rattle.line.specs.Meaning.{TellsGrant, QuoteTells, AdmissionTells, ReleaseTells, ListTells}
 
 -- ---- a list of checks
--- every check's number is over 0
-abbrev numbered : List Check → Bool
-numbered [] = true
-numbered (c ∷ cs) = ltb 0 (c .number) && numbered cs
-
--- what holds of a refusal with any number over 0, and of the answer past the checks, holds of the answer
-either-way : {A : Type 0} (P : A → Type 0) (refuse : ℕ → A) (cs : List Check) (a : A) → numbered cs ≡ true
-    → ((n : ℕ) → 0 < n → P (refuse n)) → P a → P (checked refuse cs a)
-either-way P refuse [] a over r p = p
-either-way P refuse (c ∷ cs) a over r p =
-    by-test (c .passes) (checked refuse cs a) (refuse (c .number)) P
-    (λ _. either-way P refuse cs a (snd-of (ltb 0 (c .number)) (numbered cs) over) r p)
-    (λ _. r (c .number) (ltb-true 0 (c .number) (fst-of (ltb 0 (c .number)) (numbered cs) over)))
+-- a refusal's code is its number, which is over 0: the code 0 comes past the checks
+past-checks : {A : Type 0} (code : A → ℕ) (G : A → Type 0) (refuse : ℕ → A) → ((k : ℕ) → code (refuse k) ≡ k)
+    → (cs : List Check) (a : A) → (code a ≡ 0 → G a)
+    → code (checked refuse cs a) ≡ 0
+    → G (checked refuse cs a)
+past-checks code G refuse tells cs a on = go (firstFailing cs)
+  where
+    go : (n : ℕ) → code (unlessRefused refuse a n) ≡ 0 → G (unlessRefused refuse a n)
+    go zero e = on e
+    go (suc k) e = absurd (omega (arith, tells (suc k), e))
 
 -- ---- load
 pub load-granted : (w : List ℕ) (n : ℕ) (links : List ℕ) → loadCode (loadAnswer w n links) ≡ 0 → loadAnswer w n links ≡ loading.Loaded
 unfolding loadAnswer loadCode
 load-granted w n links =
-    either-way (λ (a : Loading). loadCode a ≡ 0 → a ≡ loading.Loaded) loading.Refused (loadChecks w n links) loading.Loaded refl
-    (λ k over e. absurd (omega arith))
-    (λ e. refl)
+    past-checks loadCode (λ (a : Loading). a ≡ loading.Loaded) loading.Refused (λ k. refl) (loadChecks w n links) loading.Loaded (λ e. refl)
 
--- ---- listing and free units
-reading-granted : (checks : List Check) (v : ℕ) → numbered checks ≡ true
-    → readingCode (checked reading.Refused checks (reading.Value v)) ≡ 0
-    → checked reading.Refused checks (reading.Value v) ≡ reading.Value v
-unfolding readingCode
-reading-granted checks v over =
-    either-way (λ (a : Reading). readingCode a ≡ 0 → a ≡ reading.Value v) reading.Refused checks (reading.Value v) over
-    (λ k over e. absurd (omega arith))
-    (λ e. refl)
-
-pub list-granted : (w : List ℕ) (room : ℕ) → readingCode (listAnswer w room) ≡ 0 → listAnswer w room ≡ reading.Value (heldIn w)
-unfolding listAnswer
-list-granted w room = reading-granted (listChecks w room) (heldIn w) refl
-
+-- ---- free units
 pub free-granted : (w : List ℕ) (i : ℕ) → readingCode (freeAnswer w i) ≡ 0 → freeAnswer w i ≡ reading.Value (free (station w) i)
-unfolding freeAnswer
-free-granted w i = reading-granted ((5 unless wellFormed w) ∷ (15 unless ltb i (linksIn w)) ∷ []) (free (station w) i) refl
+unfolding freeAnswer readingCode
+free-granted w i =
+    past-checks readingCode (λ (a : Reading). a ≡ reading.Value (free (station w) i)) reading.Refused (λ k. refl) (freeChecks w i)
+    (reading.Value (free (station w) i))
+    (λ e. refl)
 
 -- ---- class
 pub class-granted : (k : ℕ) → classCode (classAnswer k) ≡ 0 → classAnswer k ≡ class.Row (getD rows k (asks 0 0 0 0))
@@ -85,49 +78,116 @@ class-granted k =
     (λ _ e. refl)
     (λ _ e. absurd (omega arith))
 
--- ---- quote, admission and release
--- the replies that grant a path
-abbrev pub Grants : Reply → Type 0
-Grants (refuses k) = ⊥
-Grants (grants problem delay cost path) = Unit {0}
-Grants releases = ⊥
+-- ---- quote, admission, release and listing, by what their C functions' clauses `means` say of code, words and array
+-- every rule's number is over 0
+abbrev numbered : List Rule → Bool
+numbered [] = true
+numbered (r ∷ rs) = ltb 0 (r .number) && numbered rs
 
--- the route search refuses with 9 or with 10
-found-granted : (g : Net) (o : Outcome) → answerCode (answerOf (replyOf g o)) ≡ 0 → Grants (replyOf g o)
-unfolding answerCode answerOf replyOf
-found-granted g no-path e = absurd (omega arith)
-found-granted g no-solution e = absurd (omega arith)
-found-granted g (granted which p) e = tt
+-- and so is the number by which a call is refused
+refused-over : (rs : List Rule) → numbered rs ≡ true → (k : ℕ) → FirstApplies rs k → 0 < k
+refused-over [] over k h = absurd h
+refused-over (r ∷ rs) over k (inl h) = omega (arith, ltb-true 0 (r .number) (fst-of (ltb 0 (r .number)) _ over), h .1)
+refused-over (r ∷ rs) over k (inr h) = refused-over rs (snd-of (ltb 0 (r .number)) _ over) k (h .1)
 
-sought-granted : (o : Books) (r : Request) → answerCode (answerOf (sought o r)) ≡ 0 → Grants (sought o r)
-unfolding sought
-sought-granted o r = found-granted (net o (r .units)) (search (net o (r .units)) r)
+-- an answer of which P holds, where P holds of no refusal with 0: the code 0 tells a grant, and its numbers are in the array
+granted-told : (P : RequestAnswer → Type 0) → ((k : ℕ) → P (request.Refused k) → 0 < k) → (v v' : List ℕ) → TellsGrant P 0 v v'
+    → (g : Numbers) × P (request.Granted g) × (v' ≡ g .problem ∷ g .delay ∷ g .cost ∷ g .links ∷ [])
+unfolding answerCode grantWords
+granted-told P over v v' h = go (h .answer) (h .means) (h .code) (h .words)
+  where
+    go : (x : RequestAnswer) → P x → 0 ≡ answerCode x → v' ≡ grantWords x v
+        → (g : Numbers) × P (request.Granted g) × (v' ≡ g .problem ∷ g .delay ∷ g .cost ∷ g .links ∷ [])
+    go (request.Refused k) means code words = absurd (omega (arith, over k means, code))
+    go (request.Granted g) means code words = (g, means, words)
 
--- past these checks comes the search
-checked-granted : (checks : List Check) (o : Books) (r : Request) → numbered checks ≡ true
-    → answerCode (answerOf (checked refuses checks (sought o r))) ≡ 0
-    → Grants (checked refuses checks (sought o r))
-unfolding answerCode answerOf
-checked-granted checks o r over =
-    either-way (λ (a : Reply). answerCode (answerOf a) ≡ 0 → Grants a) refuses checks (sought o r) over
-    (λ k over e. absurd (omega arith))
-    (sought-granted o r)
+-- and another code is the number of a refusal, which leaves the array as it was
+refused-told : (P : RequestAnswer → Type 0) (k : ℕ) → 0 < k → (v v' : List ℕ) → TellsGrant P k v v' → P (request.Refused k) × (v' ≡ v)
+unfolding answerCode grantWords
+refused-told P k some v v' h = go (h .answer) (h .means) (h .code) (h .words)
+  where
+    go : (x : RequestAnswer) → P x → k ≡ answerCode x → v' ≡ grantWords x v → P (request.Refused k) × (v' ≡ v)
+    go (request.Refused j) means code words = (subst (λ (i : ℕ). P (request.Refused i)) (sym code) means, words)
+    go (request.Granted g) means code words = absurd (omega (arith, some, code))
 
-pub quote-granted : (w : List ℕ) (work room : ℕ) (r : Request) → answerCode (answerOf (quote w work room r)) ≡ 0 → Grants (quote w work room r)
-unfolding quote
-quote-granted w work room r = checked-granted (quoteChecks w work room r) (booksIn w) r refl
+-- no quote and no admission is refused with 0
+path-over : (G : PathGrant → Type 0) (rs : List Rule) → numbered rs ≡ true → (a : PathReply) → Answered G rs a
+    → (k : ℕ) → request.Refused k ≡ answerOf a
+    → 0 < k
+unfolding answerOf
+path-over G rs over (refuses j) h k e = let same : k ≡ j = cc in omega (arith, refused-over rs over j h, same)
+path-over G rs over (grants b) h k e = absurd (zero-one cc)
 
-pub admit-granted : (w : List ℕ) (work room c : ℕ) (r : Request) → answerCode (answerOf (admission w work room c r)) ≡ 0
-    → Grants (admission w work room c r)
-unfolding admission
-admit-granted w work room c r = checked-granted (admitChecks w work room c r) (booksIn w) r refl
+module _ (w : List ℕ) (work : ℕ) (l v : List ℕ) (r : Request) (l' v' : List ℕ) where
+  quote-over : (k : ℕ) → QuoteMeans w work l r (request.Refused k) l' → 0 < k
+  quote-over k h =
+      path-over (Grant (netFor w r) r) (quoteRules w work (length l) r ++ searchRules (netFor w r) r) refl (h .reply) (h .allowed) k (h .answer)
 
-pub release-granted : (w : List ℕ) (c : ℕ) → answerCode (answerOf (release w c)) ≡ 0 → release w c ≡ releases
-unfolding release answerCode answerOf
-release-granted w c =
-    either-way (λ (a : Reply). answerCode (answerOf a) ≡ 0 → a ≡ releases) refuses (releaseChecks w c) releases refl
-    (λ k over e. absurd (omega arith))
-    (λ e. refl)
+  pub quote-granted : QuoteTells w work l v r 0 l' v'
+      → (g : Numbers) × QuoteMeans w work l r (request.Granted g) l' × (v' ≡ g .problem ∷ g .delay ∷ g .cost ∷ g .links ∷ [])
+  quote-granted = granted-told _ quote-over v v'
+
+  pub quote-refused : (k : ℕ) → 0 < k → QuoteTells w work l v r k l' v' → QuoteMeans w work l r (request.Refused k) l' × (v' ≡ v)
+  quote-refused k some = refused-told _ k some v v'
+
+  module _ (c : ℕ) (w' : List ℕ) where
+    admission-over : (k : ℕ) → AdmissionMeans w work l c r (request.Refused k) l' w' → 0 < k
+    admission-over k h =
+        path-over (Grant (netFor w r) r) (quoteRules w work (length l) r ++ numberRules (booksIn w) c ++ searchRules (netFor w r) r) refl
+        (h .reply) (h .allowed) k (h .answer)
+
+    pub admission-granted : AdmissionTells w work l v c r 0 l' v' w'
+        → (g : Numbers) × AdmissionMeans w work l c r (request.Granted g) l' w' × (v' ≡ g .problem ∷ g .delay ∷ g .cost ∷ g .links ∷ [])
+    admission-granted = granted-told _ admission-over v v'
+
+    pub admission-refused : (k : ℕ) → 0 < k → AdmissionTells w work l v c r k l' v' w'
+        → AdmissionMeans w work l c r (request.Refused k) l' w' × (v' ≡ v)
+    admission-refused k some = refused-told _ k some v v'
+
+module _ (w : List ℕ) (c : ℕ) (w' : List ℕ) where
+  release-over : (a : ReleaseReply) → Cleared w c a → (k : ℕ) → release.Refused k ≡ releaseAnswerOf a → 0 < k
+  unfolding releaseAnswerOf
+  release-over (refuses j) h k e =
+      let same : k ≡ j = cc in
+      omega (arith, refused-over ((5 when (WellFormed w → ⊥)) ∷ releaseRules (booksIn w) c) refl j h, same)
+  release-over (grants _) h k e = absurd (zero-one cc)
+
+  pub release-granted : ReleaseTells w c 0 w' → ReleaseMeans w c release.Released w'
+  unfolding releaseCode
+  release-granted h = go (h .answer) (h .means) (h .code)
+    where
+      go : (x : ReleaseAnswer) → ReleaseMeans w c x w' → 0 ≡ releaseCode x → ReleaseMeans w c release.Released w'
+      go (release.Refused k) means code = absurd (omega (arith, release-over (means .reply) (means .allowed) k (means .answer), code))
+      go release.Released means code = means
+
+  pub release-refused : (k : ℕ) → 0 < k → ReleaseTells w c k w' → ReleaseMeans w c (release.Refused k) w'
+  unfolding releaseCode
+  release-refused k some h = go (h .answer) (h .means) (h .code)
+    where
+      go : (x : ReleaseAnswer) → ReleaseMeans w c x w' → k ≡ releaseCode x → ReleaseMeans w c (release.Refused k) w'
+      go (release.Refused j) means code = subst (λ (i : ℕ). ReleaseMeans w c (release.Refused i) w') (sym code) means
+      go release.Released means code = absurd (omega (arith, some, code))
+
+module _ (w l v l' v' : List ℕ) where
+  list-over : (a : Reply (List ℕ)) → Answered (ListsHeld (station w .held)) (listRules w (length l)) a → (k : ℕ) → reading.Refused k ≡ countOf a → 0 < k
+  list-over (refuses j) h k e = let same : k ≡ j = cc in omega (arith, refused-over (listRules w (length l)) refl j h, same)
+  list-over (grants ns) h k e = absurd (zero-one cc)
+
+  pub list-granted : ListTells w l v 0 l' v' → (h : ℕ) × ListMeans w l (reading.Value h) l' × (v' ≡ h ∷ [])
+  unfolding readingCode valueWord
+  list-granted t = go (t .answer) (t .means) (t .code) (t .words)
+    where
+      go : (x : Reading) → ListMeans w l x l' → 0 ≡ readingCode x → v' ≡ valueWord x v → (h : ℕ) × ListMeans w l (reading.Value h) l' × (v' ≡ h ∷ [])
+      go (reading.Refused k) means code words = absurd (omega (arith, list-over (means .reply) (means .allowed) k (means .answer), code))
+      go (reading.Value h) means code words = (h, means, words)
+
+  pub list-refused : (k : ℕ) → 0 < k → ListTells w l v k l' v' → ListMeans w l (reading.Refused k) l' × (v' ≡ v)
+  unfolding readingCode valueWord
+  list-refused k some t = go (t .answer) (t .means) (t .code) (t .words)
+    where
+      go : (x : Reading) → ListMeans w l x l' → k ≡ readingCode x → v' ≡ valueWord x v → ListMeans w l (reading.Refused k) l' × (v' ≡ v)
+      go (reading.Refused j) means code words = (subst (λ (i : ℕ). ListMeans w l (reading.Refused i) l') (sym code) means, words)
+      go (reading.Value h) means code words = absurd (omega (arith, some, code))
 
 -- ---- link file
 pub file-granted : (f : List ℕ) (room : ℕ) → fileCode (readAnswer f room) ≡ 0
@@ -135,6 +195,4 @@ pub file-granted : (f : List ℕ) (room : ℕ) → fileCode (readAnswer f room) 
 unfolding readAnswer fileCode
 file-granted f room =
     let size : Size = record { nodes = nodesIn f; links = fileLinks f } in
-    either-way (λ (a : FileReading). fileCode a ≡ 0 → a ≡ file.Table size) file.Refused (readChecks f room) (file.Table size) refl
-    (λ k over e. absurd (omega arith))
-    (λ e. refl)
+    past-checks fileCode (λ (a : FileReading). a ≡ file.Table size) file.Refused (λ k. refl) (readChecks f room) (file.Table size) (λ e. refl)

@@ -3,34 +3,33 @@
 -- Assumes nothing.
 use Prim.Native.Nat.{ℕ}
 use mathlib.Core.List.{List, [], _∷_}
-use Rattle.network.specs.declared.Request.{Request}
 use Rattle.area.specs.declared.Loading.{Loading}
 use Rattle.area.specs.declared.Loading.the-variants as loading
 use Rattle.area.specs.declared.Reading.{Reading}
 use Rattle.area.specs.declared.Reading.the-variants as reading
-use Rattle.rules.specs.declared.Answer.{Answer}
-use Rattle.rules.specs.declared.Answer.the-variants as answer
+use Rattle.rules.specs.declared.RequestAnswer.{RequestAnswer}
+use Rattle.rules.specs.declared.RequestAnswer.the-variants as request
+use Rattle.rules.specs.declared.ReleaseAnswer.{ReleaseAnswer}
+use Rattle.rules.specs.declared.ReleaseAnswer.the-variants as release
 use Rattle.rules.specs.declared.ClassAnswer.{ClassAnswer}
 use Rattle.rules.specs.declared.ClassAnswer.the-variants as class
 use Rattle.link_format.specs.declared.Reading.{Reading as FileReading}
 use Rattle.link_format.specs.declared.Reading.the-variants as file
 
--- the request of the numbers in the order of the C parameters
-abbrev pub asked : ℕ → ℕ → ℕ → ℕ → ℕ → ℕ → Request
-asked s t units delay cost coefficient =
-    record { source = s; target = t; units = units; «delay_bound» = delay; «cost_bound» = cost; coefficient = coefficient }
-
--- ---- quote, admission and release
-unfoldable pub answerCode : Answer → ℕ
-answerCode (answer.Refused k) = k
-answerCode (answer.Granted g) = 0
-answerCode answer.Released = 0
+-- ---- quote and admission
+unfoldable pub answerCode : RequestAnswer → ℕ
+answerCode (request.Refused k) = k
+answerCode (request.Granted g) = 0
 
 -- problem, delay, cost, links
-unfoldable pub grantWords : Answer → List ℕ → List ℕ
-grantWords (answer.Refused k) before = before
-grantWords (answer.Granted g) before = g .problem ∷ g .delay ∷ g .cost ∷ g .links ∷ []
-grantWords answer.Released before = before
+unfoldable pub grantWords : RequestAnswer → List ℕ → List ℕ
+grantWords (request.Refused k) before = before
+grantWords (request.Granted g) before = g .problem ∷ g .delay ∷ g .cost ∷ g .links ∷ []
+
+-- ---- release
+unfoldable pub releaseCode : ReleaseAnswer → ℕ
+releaseCode (release.Refused k) = k
+releaseCode release.Released = 0
 
 -- ---- load
 unfoldable pub loadCode : Loading → ℕ

@@ -1,2 +1,3 @@
--- What C is told of an answer.
+-- The codes and answer words of the C functions, and what they mean.
 pub mod Codes
+pub mod Meaning

@@ -1,22 +1,22 @@
 // What quote and admission answer, as C is told it, and the request that C asks for.
 ghost use mathlib.Core.Path.{_≡_};
-ghost use Rattle.line.specs.Codes.{asked, answerCode, grantWords};
+ghost use Rattle.network.specs.Reduce.{asking};
+ghost use Rattle.line.specs.Codes.{answerCode, grantWords};
 use network::Request;
-use rules::Answer;
+use rules::RequestAnswer;
 
 // 0, and problem, delay, cost and links of a granted path in `answer`; or document 01's number, and `answer` stays as
 // it was.
-pub fn tell(a: Answer, answer: &mut [u32; 4]) -> u32
+pub fn tell(a: RequestAnswer, answer: &mut [u32; 4]) -> u32
     ensures code { λ k. ⌜ k ≡ answerCode a ⌝ }
     ensures answer { λ _. ⌜ now (answer .exit) ≡ grantWords a (now (answer .entry)) ⌝ }
 {
     match a {
-        Answer::Refused(k) => k,
-        Answer::Granted(g) => {
+        RequestAnswer::Refused(k) => k,
+        RequestAnswer::Granted(g) => {
             *answer = [g.problem, g.delay, g.cost, g.links];
             0
         }
-        Answer::Released => 0, // not of a quote or an admission
     }
 }
 
@@ -29,7 +29,7 @@ pub fn request(
     cost_bound: u32,
     coefficient: u32,
 ) -> Request
-    ensures { λ r. ⌜ r ≡ asked s t units «delay_bound» «cost_bound» coefficient ⌝ }
+    ensures { λ r. ⌜ r ≡ asking s t units «delay_bound» «cost_bound» coefficient ⌝ }
 {
     Request {
         source: s,

@@ -2,8 +2,9 @@
 ghost use mathlib.Core.Path.{_≡_};
 ghost use lib.ListN.{length};
 ghost use Rattle.area.specs.Load.{loadAnswer, areaLoaded};
-ghost use Rattle.area.specs.Reads.{listAnswer, listed, Lists, freeAnswer};
+ghost use Rattle.area.specs.Reads.{listAnswer, listed, freeAnswer};
 ghost use Rattle.line.specs.Codes.{loadCode, readingCode, valueWord};
+ghost use Rattle.line.specs.Meaning.{ListTells};
 use crate::readings::tell;
 use area::Loading;
 use station::load::load;
@@ -27,7 +28,7 @@ pub extern "C" fn line_list(area: &[u32], numbers: &mut [u32], answer: &mut [u32
     ensures code { λ k. ⌜ k ≡ readingCode (listAnswer (now (area .entry)) (length (now (numbers .entry)))) ⌝ }
     ensures answer { λ _. ⌜ now (answer .exit) ≡ valueWord (listAnswer (now (area .entry)) (length (now (numbers .entry)))) (now (answer .entry)) ⌝ }
     ensures numbers { λ _. ⌜ now (numbers .exit) ≡ listed (now (area .entry)) (now (numbers .entry)) ⌝ }
-    ensures means { λ _. ⌜ Lists (now (area .entry)) ⌝ }
+    ensures means { λ k. ⌜ ListTells (now (area .entry)) (now (numbers .entry)) (now (answer .entry)) k (now (numbers .exit)) (now (answer .exit)) ⌝ }
 {
     let count = reads::list(area, numbers);
     tell(count, answer)

@@ -1,6 +1,6 @@
 -- An accepted file: what the checks have said of it, and the words that then stand in the table.
 -- Assumes nothing.
-use mathlib.Core.Path.{_≡_, sym, ap}
+use mathlib.Core.Path.{_≡_, refl, sym, ap}
 use mathlib.Core.Bool.{true}
 use mathlib.Core.List.{List, [], _++_}
 use Prim.Native.Nat.{ℕ, _+_, _*_, _≤_}
@@ -9,8 +9,8 @@ use lib.Dec.{leb}
 use lib.ListN.{length, drop}
 use Rattle.network.proofs.Stored.{from-length}
 use Rattle.network.proofs.Tests.{fst-of, snd-of, zero-one}
-use Rattle.area.specs.Checks.{pass}
-use Rattle.area.proofs.Checks.{all-pass}
+use Rattle.area.specs.Checks.{firstFailing}
+use Rattle.area.proofs.Checks.{each-passes, all-pass}
 use Rattle.link_format.specs.declared.Size.{Size}
 use Rattle.link_format.specs.declared.Reading.{Reading}
 use Rattle.link_format.specs.declared.Reading.the-variants.{Refused, Table}
@@ -36,20 +36,19 @@ module _ (f : List ℕ) (room : ℕ) where
   unfolding readAnswer
   accepts a = simp (a .trailer, filled f [] (a .trailer) (a .few) (a .whole), le-leb (5 * linksIn f) room (a .enough))
 
-  checks-said : pass (readChecks f room) ≡ true → Accepted f room
+  checks-said : firstFailing (readChecks f room) ≡ 0 → Accepted f room
   unfolding fills
   checks-said ok =
-      let rest = snd-of (signed f) _ ok in
-      let size = fst-of (fills f) _ rest in
+      let each = each-passes (readChecks f room) refl ok in
       record {
-        trailer = fst-of (signed f) _ ok;
-        few = leb-true (linksIn f) 256 (fst-of (leb (linksIn f) 256) _ size);
-        whole = eqb-true (offsetIn f + 20 * linksIn f + 16) (length f) (snd-of (leb (linksIn f) 256) _ size);
-        enough = leb-true (5 * linksIn f) room (fst-of (leb (5 * linksIn f) room) _ (snd-of (fills f) _ rest));
+        trailer = each .0;
+        few = leb-true (linksIn f) 256 (fst-of (leb (linksIn f) 256) _ (each .1 .0));
+        whole = eqb-true (offsetIn f + 20 * linksIn f + 16) (length f) (snd-of (leb (linksIn f) 256) _ (each .1 .0));
+        enough = leb-true (5 * linksIn f) room (each .1 .1 .0);
       }
 
   module _ (s : Size) (e : readAnswer f room ≡ Table s) where
-    passed : (pass (readChecks f room) ≡ true) × (Table (record { nodes = nodesIn f; links = linksIn f }) ≡ Table s)
+    passed : (firstFailing (readChecks f room) ≡ 0) × (Table (record { nodes = nodesIn f; links = linksIn f }) ≡ Table s)
     unfolding readAnswer
     passed = all-pass Refused (readChecks f room) _ (Table s) (λ k clash. zero-one cc) e
 
@@ -63,4 +62,4 @@ module _ (f : List ℕ) (room : ℕ) where
 -- the records' words stand in front, and the words past them keep theirs
 pub table-accepted : (f t : List ℕ) (s : Size) → readAnswer f (length t) ≡ Table s → tableRead f t ≡ recordWords f ++ drop (5 * linksIn f) t
 unfolding tableRead
-table-accepted f t s e = simp (passed f (length t) s e .0)
+table-accepted f t s e = rw (passed f (length t) s e .0) refl

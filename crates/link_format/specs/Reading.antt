@@ -1,12 +1,12 @@
 -- What the reader answers, and the table after. Its contract cites these definitions.
 -- Assumes nothing.
 use Prim.Native.Nat.{ℕ, _+_, _*_, _-_}
-use mathlib.Core.Bool.{Bool, cond, _&&_}
+use mathlib.Core.Bool.{Bool, _&&_}
 use mathlib.Core.List.{List, [], _∷_, _++_}
 use lib.Dec.{leb, eqb}
 use lib.ListN.{length, getD, drop}
 use Rattle.network.specs.Lists.{from}
-use Rattle.area.specs.Checks.{Check, _unless_, checked, pass}
+use Rattle.area.specs.Checks.{Check, _unless_, checked}
 use Rattle.link_format.specs.declared.Reading.{Reading}
 use Rattle.link_format.specs.declared.Reading.the-variants.{Refused, Table}
 
@@ -57,4 +57,4 @@ readAnswer f room = checked Refused (readChecks f room) (Table (record { nodes =
 
 -- the records' words in front, the rest untouched; a refusal changes none
 unfoldable pub tableRead : List ℕ → List ℕ → List ℕ
-tableRead f t = cond (pass (readChecks f (length t))) (recordWords f ++ drop (5 * linksIn f) t) t
+tableRead f t = checked (λ _. t) (readChecks f (length t)) (recordWords f ++ drop (5 * linksIn f) t)

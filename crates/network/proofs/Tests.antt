@@ -1,7 +1,7 @@
 -- A test's two cases, with what each says, and the two halves of a test that passed.
 -- Assumes nothing.
-use mathlib.Core.Path.{_≡_, refl}
-use mathlib.Core.Bool.{Bool, true, false, cond, _&&_, and-eq-true-iff}
+use mathlib.Core.Path.{_≡_, refl, sym, _∙_}
+use mathlib.Core.Bool.{Bool, true, false, cond, _&&_, and-eq-true-iff, true≢false}
 use Prim.Native.Nat.{ℕ, _≤_, _<_}
 use native.Mathlib.Omega.{arith}
 use lib.Dec.{ltb, eqb}
@@ -26,6 +26,10 @@ fst-of a b e = and-eq-true-iff a b .0 e .0
 
 pub snd-of : (a b : Bool) → (a && b) ≡ true → b ≡ true
 snd-of a b e = and-eq-true-iff a b .0 e .1
+
+-- a statement that a test decides holds where it cannot fail
+pub unfailing : (t : Bool) {P : Type 0} → (t ≡ true → P) → (P → t ≡ true) → ((P → ⊥) → ⊥) → P
+unfailing t says test h = by-bool t says (λ e. absurd (h (λ p. true≢false (sym (test p) ∙ e))))
 
 -- what `cc` shows of two values that are built in different ways is absurd
 pub zero-one : _≡_ {A = ℕ} 0 1 → ⊥

@@ -16,6 +16,11 @@ delayBound r = r .«delay_bound»
 abbrev pub costBound : Request → ℕ
 costBound r = r .«cost_bound»
 
+-- the request of these numbers, in document 01's order: s, t, b, D, C and the coefficient
+abbrev pub asking : ℕ → ℕ → ℕ → ℕ → ℕ → ℕ → Request
+asking s t b d c f =
+    record { source = s; target = t; units = b; «delay_bound» = d; «cost_bound» = c; coefficient = f }
+
 -- problem one: delay is kept, cost is scaled
 unfoldable pub problemOne : Net → Request → ℕ → Problem
 problemOne g r x =

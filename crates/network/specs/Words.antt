@@ -1,7 +1,8 @@
--- The network that link words and flags describe: five words a link, in the order from, to, delay, cost, capacity.
+-- The network that link words describe: five words a link, in the order from, to, delay, cost, capacity.
 -- Assumes nothing.
 use Prim.Native.Nat.{ℕ, _+_, _*_, _≤_, _<_}
 use mathlib.Core.Path.{_≡_}
+use mathlib.Core.Bool.{Bool}
 use mathlib.Core.List.{List}
 use lib.Dec.{eqb}
 use lib.ListN.{length, getD}
@@ -11,18 +12,22 @@ use Rattle.network.specs.Net.{Net}
 abbrev pub field : List ℕ → ℕ → ℕ → ℕ
 field words i j = getD words (5 * i + j) 0
 
--- n nodes, m links with these words; a link whose flag is 1 is usable
-unfoldable pub netOf : ℕ → ℕ → List ℕ → List ℕ → Net
-netOf n m words flags =
+-- n nodes and m links with these words, of which those that `usable` says are usable
+abbrev pub netBy : ℕ → ℕ → List ℕ → (ℕ → Bool) → Net
+netBy n m words usable =
     record {
       nodes = n;
       links = m;
       tail = λ i. field words i 0;
       head = λ i. field words i 1;
-      usable = λ i. eqb (getD flags i 0) 1;
+      usable = usable;
       delay = λ i. field words i 2;
       cost = λ i. field words i 3;
     }
+
+-- a link whose flag is 1 is usable
+unfoldable pub netOf : ℕ → ℕ → List ℕ → List ℕ → Net
+netOf n m words flags = netBy n m words (λ i. eqb (getD flags i 0) 1)
 
 -- the words are those of m links between n nodes, and what a search reads of them is in document 01's ranges; it reads no
 -- capacity, and equal ends do it no harm

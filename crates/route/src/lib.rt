@@ -8,9 +8,7 @@
 // and each caller shows it; what `search` requires, the upper crate's calls have checked before they search.
 ghost use mathlib.Core.Path.{_≡_};
 ghost use Rattle.network.specs.Words.{netOf};
-ghost use Rattle.search.specs.Heuristic.{search};
-ghost use Rattle.search.specs.Answers.{answerOf, pathAfter};
-ghost use Rattle.search.specs.Ready.{Ready};
+ghost use Rattle.search.specs.Result.{Ready, outcome, answerOf, pathAfter};
 
 mod attempt;
 mod distance;
@@ -41,8 +39,8 @@ pub fn search(
     r: Request,
 ) -> Answer
     requires { ⌜ Ready n m (now links) (now usable) (now work) (now path) r ⌝ }
-    ensures answer { λ a. ⌜ a ≡ answerOf (netOf n m (now (links .entry)) (now (usable .entry))) (search (netOf n m (now (links .entry)) (now (usable .entry))) r) ⌝ }
-    ensures path { λ a. ⌜ now (path .exit) ≡ pathAfter (search (netOf n m (now (links .entry)) (now (usable .entry))) r) (now (path .entry)) ⌝ }
+    ensures answer { λ a. ⌜ a ≡ answerOf (netOf n m (now (links .entry)) (now (usable .entry))) (outcome (netOf n m (now (links .entry)) (now (usable .entry))) r) ⌝ }
+    ensures path { λ a. ⌜ now (path .exit) ≡ pathAfter (outcome (netOf n m (now (links .entry)) (now (usable .entry))) r) (now (path .entry)) ⌝ }
 {
     let s = link::wide(r.source);
     let t = link::wide(r.target);

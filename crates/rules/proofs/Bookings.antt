@@ -5,48 +5,45 @@ use Prim.Native.Nat.{ℕ, suc, _≤_, _<_}
 use mathlib.Core.Path.{_≡_, refl, sym, ap, _∙_, subst}
 use mathlib.Core.Bool.{true}
 use mathlib.Core.List.{List}
-use mathlib.Core.Logic.{inl, inr}
+use mathlib.Core.Logic.{_⊎_, inl, inr}
 use native.Mathlib.Omega.{arith}
-use lib.Dec.{ltb, leb}
 use lib.ListN.{length, getD}
 use borrow.Author.Tests.{leb-true, ltb-true}
 use Rattle.network.specs.Lists.{memb}
 use Rattle.network.specs.Net.{Net, IsPath}
 use Rattle.network.specs.declared.Request.{Request}
-use Rattle.network.proofs.Tests.{fst-of, snd-of}
+use Rattle.network.proofs.Tests.{by-bool, by-lt}
 use Rattle.network.proofs.Paths.{walk-links}
 use Rattle.network.proofs.Short.{path-short}
 use Rattle.area.specs.Station.{Circuit, Station, station}
 use Rattle.area.specs.Books.{holds, free, books, net}
 use Rattle.area.specs.Held.{foundAt}
-use Rattle.area.specs.Formed.{CircuitFits, Sound, WellFormed, wellFormed}
+use Rattle.area.specs.Formed.{CircuitFits, Sound, WellFormed}
 use Rattle.area.specs.Moves.{withCircuit, withoutNumber, Untouched}
-use Rattle.area.proofs.Checks.{all-pass}
-use Rattle.area.proofs.Formed.{formed-says}
+use Rattle.search.specs.Result.{GrantedByOne, GrantedByTwo}
+use Rattle.area.specs.Refusals.{refuses, grants}
 use Rattle.area.proofs.Found.{holds-found}
 use Rattle.area.proofs.Added.{added-long, added-untouched, added-station}
 use Rattle.area.proofs.Removed.{removed-long, removed-untouched, removed-station}
 use Rattle.area.proofs.ReadCases.{links-few, held-few}
+use Rattle.area.proofs.Order.{agrees-eq}
 use Rattle.area.proofs.Keeps.{sound-added, sound-removed, without-one, without-gone}
-use Rattle.rules.specs.Requests.{RequestFits, requestFits}
-use Rattle.rules.specs.Replies.{Reply, refuses, grants, releases}
-use Rattle.rules.specs.Calls.{booksIn, sought, numberFits, admitChecks, admission, booked, releaseChecks, release, cleared}
-use Rattle.rules.specs.Allowed.{Answered, Grant, by-one, by-two, searchRules, NumberFits}
-use Rattle.rules.specs.Meaning.{netFor}
-use Rattle.rules.proofs.Facts.{granted-not-refused, released-not-refused, whole-path, some-link, count-is, held-number}
-use Rattle.rules.proofs.Meaning.{request-says, number-says, area-searchable, sought-means}
+use Rattle.rules.specs.Requests.{RequestFits}
+use Rattle.rules.specs.Replies.{PathGrant, PathReply, ReleaseReply, releases}
+use Rattle.rules.specs.Calls.{admission, booked, release, cleared}
+use Rattle.rules.specs.Allowed.{Grant, NumberFits}
+use Rattle.rules.specs.Meaning.{booksIn, circuitFor, netFor, Admitted, Cleared, AreaBooked, AreaCleared}
+use Rattle.rules.proofs.Facts.{whole-path, some-link, count-is, held-number}
+use Rattle.rules.proofs.Meaning.{area-searchable, formed-past, request-past, number-past, admission-means, release-means}
 
 -- a granted path is a usable path
-pub grant-path : {g : Net} {r : Request} {k d x : ℕ} {p : List ℕ} → Grant g r (grants k d x p) → IsPath g (r .source) (r .target) p
-grant-path (by-one p h) = h .2 .solves .path
-grant-path (by-two p h) = h .3 .solves .path
-
--- a search that ends with a grant
-pub searched : (g : Net) (r : Request) (k d x : ℕ) (p : List ℕ) → Answered (Grant g r) (searchRules g r) (grants k d x p) → Grant g r (grants k d x p)
-unfolding Answered
-searched g r k d x p (inl (h, e)) = absurd (granted-not-refused k d x p 9 (sym e))
-searched g r k d x p (inr (n, inl (h, e))) = absurd (granted-not-refused k d x p 10 (sym e))
-searched g r k d x p (inr (n, inr (m, h))) = h
+pub grant-path : {g : Net} {r : Request} {a : PathGrant} → Grant g r a → IsPath g (r .source) (r .target) (a .path)
+grant-path {g = g} {r = r} {a = a} h = go (h .least)
+  where
+    go : ((a .problem ≡ 1) × GrantedByOne g r (a .path)) ⊎ ((a .problem ≡ 2) × GrantedByTwo g r (a .path))
+        → IsPath g (r .source) (r .target) (a .path)
+    go (inl (e, h)) = h .2 .solves .path
+    go (inr (e, h)) = h .3 .solves .path
 
 -- a path of the network that a request sees has at most 31 links, since it has fewer than there are nodes
 pub seen-short : (w : List ℕ) (r : Request) → WellFormed w → RequestFits (booksIn w .table .nodes) r
@@ -57,37 +54,29 @@ seen-short w r formed fits p path =
     omega (arith, path-short (netFor w r) (ok .ends) (r .source) (r .target) (ok .source) p path, ok .few)
 
 -- ---- a granted admission
--- the circuit that a grant makes
-abbrev pub circuitFor : ℕ → Request → List ℕ → Circuit
-circuitFor c r p = record { number = c; units = r .units; path = p }
-
--- what the checks and the search said before the grant
-pub record Accepted (w : List ℕ) (c : ℕ) (r : Request) (k d x : ℕ) (p : List ℕ) : Type 0 where
+-- what the rules and the search said before the grant
+pub record Accepted (w : List ℕ) (c : ℕ) (r : Request) (g : PathGrant) : Type 0 where
   pub formed : WellFormed w
   pub request : RequestFits (booksIn w .table .nodes) r
   pub number : NumberFits (booksIn w) c
   pub room : booksIn w .count < 64
-  pub grant : Grant (netFor w r) r (grants k d x p)
+  pub grant : Grant (netFor w r) r g
 
-module _ (w : List ℕ) (work room c : ℕ) (r : Request) (k d x : ℕ) (p : List ℕ) (e : admission w work room c r ≡ grants k d x p) where
-  -- a grant comes past every check and from the search
-  pub admission-granted : Accepted w c r k d x p
-  unfolding admission
+module _ (w : List ℕ) (work room c : ℕ) (r : Request) (g : PathGrant) (e : admission w work room c r ≡ grants g) where
+  abbrev p : List ℕ
+  p = g .path
+
+  -- a grant comes past every rule and from the search
+  pub admission-granted : Accepted w c r g
   admission-granted =
-      let h = all-pass refuses (admitChecks w work room c r) (sought (booksIn w) r) (grants k d x p) (granted-not-refused k d x p) e in
-      let e6 = snd-of (wellFormed w) _ (h .0) in
-      let e7 = snd-of (leb 16384 work) _ e6 in
-      let e8 = snd-of (leb 31 room) _ e7 in
-      let e11 = snd-of (requestFits (booksIn w .table .nodes) r) _ e8 in
-      let e12 = snd-of (numberFits (booksIn w) c) _ e11 in
-      let formed : WellFormed w = formed-says w (fst-of (wellFormed w) _ (h .0)) in
-      let fits : RequestFits (booksIn w .table .nodes) r = request-says (booksIn w .table .nodes) r (fst-of (requestFits (booksIn w .table .nodes) r) _ e8) in
+      let h = subst (Admitted w work room c r) e (admission-means w work room r c) in
+      let past = h .0 .1 .1 .1 in
       record {
-        formed = formed;
-        request = fits;
-        number = number-says (booksIn w) c (fst-of (numberFits (booksIn w) c) _ e11);
-        room = ltb-true (booksIn w .count) 64 (fst-of (ltb (booksIn w .count) 64) _ e12);
-        grant = searched (netFor w r) r k d x p (subst (Answered (Grant (netFor w r) r) (searchRules (netFor w r) r)) (h .1) (sought-means w r formed fits));
+        formed = formed-past w (h .0 .0);
+        request = request-past _ r (past .0);
+        number = number-past (booksIn w) c (past .1 .0);
+        room = by-lt (booksIn w .count) 64 (λ low. low) (λ high. absurd (past .1 .1 .0 high));
+        grant = h .1;
       }
 
   path : IsPath (netFor w r) (r .source) (r .target) p
@@ -97,7 +86,7 @@ module _ (w : List ℕ) (work room c : ℕ) (r : Request) (k d x : ℕ) (p : Lis
   short = seen-short w r (admission-granted .formed) (admission-granted .request) p path
 
   -- the circuit fits the table
-  pub admitted-fits : CircuitFits (station w .table) (circuitFor c r p)
+  pub admitted-fits : CircuitFits (station w .table) (circuitFor c (r .units) p)
   unfolding books
   admitted-fits =
       record {
@@ -117,31 +106,31 @@ module _ (w : List ℕ) (work room c : ℕ) (r : Request) (k d x : ℕ) (p : Lis
       leb-true (r .units) (free (station w) i) (walk-links (netFor w r) (r .source) (r .target) p (path .walk) i h .1)
 
   -- the station after has the circuit more, and no other change
-  pub admitted-station : station (booked w c (r .units) (grants k d x p)) ≡ withCircuit (station w) (circuitFor c r p)
+  pub admitted-station : station (booked w c (r .units) (grants g)) ≡ withCircuit (station w) (circuitFor c (r .units) p)
   unfolding booked
   admitted-station =
-      added-station w (circuitFor c r p) (admission-granted .formed .long) (links-few w (admission-granted .formed))
+      added-station w (circuitFor c (r .units) p) (admission-granted .formed .long) (links-few w (admission-granted .formed))
       (omega (arith, count-is w, admission-granted .room)) short
 
   -- one more is held; since 12 is refused only where 64 are, 64 can be held
-  pub admitted-count : booksIn (booked w c (r .units) (grants k d x p)) .count ≡ suc (booksIn w .count)
+  pub admitted-count : booksIn (booked w c (r .units) (grants g)) .count ≡ suc (booksIn w .count)
   unfolding books
   admitted-count = ap (λ (s : Station). length (s .held)) admitted-station
 
-  granted-formed : WellFormed (booked w c (r .units) (grants k d x p))
+  granted-formed : WellFormed (booked w c (r .units) (grants g))
   unfolding booked books
   granted-formed =
       record {
-        long = omega (arith, added-long w (circuitFor c r p), admission-granted .formed .long);
+        long = omega (arith, added-long w (circuitFor c (r .units) p), admission-granted .formed .long);
         sound =
             subst Sound (sym admitted-station)
-            (sound-added (station w) (circuitFor c r p) (admission-granted .formed .sound) (admission-granted .room) admitted-fits
+            (sound-added (station w) (circuitFor c (r .units) p) (admission-granted .formed .sound) (admission-granted .room) admitted-fits
             (admission-granted .number .new) admitted-free);
       }
 
-  granted-untouched : Untouched w (booked w c (r .units) (grants k d x p))
+  granted-untouched : Untouched w (booked w c (r .units) (grants g))
   unfolding booked
-  granted-untouched = added-untouched w (circuitFor c r p) (omega (arith, count-is w, admission-granted .room)) short
+  granted-untouched = added-untouched w (circuitFor c (r .units) p) (omega (arith, count-is w, admission-granted .room)) short
 
 -- ---- any admission
 -- a refusal leaves the words as they are
@@ -154,29 +143,41 @@ module _ (w : List ℕ) (work room c : ℕ) (r : Request) where
   unfolding booked
   admitted-formed formed = go (admission w work room c r) refl
     where
-      go : (a : Reply) → admission w work room c r ≡ a → WellFormed (booked w c (r .units) a)
+      go : (a : PathReply) → admission w work room c r ≡ a → WellFormed (booked w c (r .units) a)
       go (refuses n) e = formed
-      go (grants k d x p) e = granted-formed w work room c r k d x p e
-      go releases e = formed
+      go (grants g) e = granted-formed w work room c r g e
 
   -- n, m, the links and the words past the circuits stay
   pub admitted-untouched : Untouched w (booked w c (r .units) (admission w work room c r))
   unfolding booked
   admitted-untouched = go (admission w work room c r) refl
     where
-      go : (a : Reply) → admission w work room c r ≡ a → Untouched w (booked w c (r .units) a)
+      go : (a : PathReply) → admission w work room c r ≡ a → Untouched w (booked w c (r .units) a)
       go (refuses n) e = same-untouched w
-      go (grants k d x p) e = granted-untouched w work room c r k d x p e
-      go releases e = same-untouched w
+      go (grants g) e = granted-untouched w work room c r g e
+
+  -- the area after it is what the rules leave
+  pub admitted-area : AreaBooked w c (r .units) (admission w work room c r) (booked w c (r .units) (admission w work room c r))
+  unfolding booked
+  admitted-area = go (admission w work room c r) refl
+    where
+      go : (a : PathReply) → admission w work room c r ≡ a → AreaBooked w c (r .units) a (booked w c (r .units) a)
+      go (refuses n) e = refl
+      go (grants g) e =
+          record {
+            holds = agrees-eq (admitted-station w work room c r g e) .held;
+            formed = granted-formed w work room c r g e;
+            untouched = granted-untouched w work room c r g e;
+          }
 
 -- ---- a granted release
 module _ (w : List ℕ) (c : ℕ) (e : release w c ≡ releases) where
-  -- a release comes past both checks
+  -- a release comes past both rules
   passed : WellFormed w × (holds (station w .held) c ≡ true)
-  unfolding release books
+  unfolding books
   passed =
-      let h = all-pass refuses (releaseChecks w c) releases releases released-not-refused e .0 in
-      (formed-says w (fst-of (wellFormed w) _ h), fst-of (holds (station w .held) c) _ (snd-of (wellFormed w) _ h))
+      let h = subst (Cleared w c) e (release-means w c) in
+      (formed-past w (h .0 .0), by-bool (holds (station w .held) c) (λ q. q) (λ q. absurd (h .0 .1 .0 q)))
 
   -- the station after is without the number, and has no other change
   pub released-station : station (cleared w c releases) ≡ withoutNumber (station w) c
@@ -217,17 +218,29 @@ module _ (w : List ℕ) (c : ℕ) where
   unfolding cleared
   released-formed formed = go (release w c) refl
     where
-      go : (a : Reply) → release w c ≡ a → WellFormed (cleared w c a)
+      go : (a : ReleaseReply) → release w c ≡ a → WellFormed (cleared w c a)
       go (refuses n) e = formed
-      go (grants k d x p) e = formed
-      go releases e = unheld-formed w c e
+      go (grants _) e = unheld-formed w c e
 
   -- n, m, the links and the words past the circuits stay
   pub released-untouched : Untouched w (cleared w c (release w c))
   unfolding cleared
   released-untouched = go (release w c) refl
     where
-      go : (a : Reply) → release w c ≡ a → Untouched w (cleared w c a)
+      go : (a : ReleaseReply) → release w c ≡ a → Untouched w (cleared w c a)
       go (refuses n) e = same-untouched w
-      go (grants k d x p) e = same-untouched w
-      go releases e = unheld-untouched w c e
+      go (grants _) e = unheld-untouched w c e
+
+  -- the area after it is what the rules leave
+  pub released-area : AreaCleared w c (release w c) (cleared w c (release w c))
+  unfolding cleared
+  released-area = go (release w c) refl
+    where
+      go : (a : ReleaseReply) → release w c ≡ a → AreaCleared w c a (cleared w c a)
+      go (refuses n) e = refl
+      go (grants _) e =
+          record {
+            holds = agrees-eq (released-station w c e) .held;
+            formed = unheld-formed w c e;
+            untouched = unheld-untouched w c e;
+          }

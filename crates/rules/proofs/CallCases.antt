@@ -1,8 +1,8 @@
 -- The calls, one equation for each of the code's returns: the first check that fails gives the reply, and past the
 -- checks it is what the search replies.
 -- Assumes nothing.
-use Prim.Native.Nat.{ℕ, _≤_, _<_}
-use mathlib.Core.Path.{_≡_, refl, ap, _∙_}
+use Prim.Native.Nat.{ℕ, zero, suc, _≤_, _<_}
+use mathlib.Core.Path.{_≡_, refl, sym, ap, _∙_}
 use mathlib.Core.Bool.{Bool, true, false, cond}
 use mathlib.Core.List.{List, [], _∷_, _++_}
 use native.Mathlib.Omega.{arith}
@@ -14,22 +14,31 @@ use Rattle.area.specs.Station.{nodesIn, tableIn, station}
 use Rattle.area.specs.Books.{books}
 use Rattle.area.specs.Held.{foundAt}
 use Rattle.area.specs.Formed.{inRange, wellFormed}
-use Rattle.area.specs.Checks.{Check, checked, firstFailing}
+use Rattle.area.specs.Refusals.{refuses}
+use Rattle.area.specs.Checks.{Check, firstFailing, unlessRefused, checked}
 use Rattle.area.proofs.Found.{holds-found, unheld-found}
 use Rattle.rules.proofs.Facts.{count-is}
 use Rattle.rules.specs.Requests.{requestFits}
-use Rattle.rules.specs.Replies.{Reply, refuses, releases}
-use Rattle.rules.specs.Calls.{booksIn, numberFits, numberChecks, quoteChecks, sought, quote, admission, release}
+use Rattle.rules.specs.Replies.{PathReply, releases}
+use Rattle.rules.specs.Calls.{numberFits, numberChecks, quoteChecks, sought, quote, admission, release}
+use Rattle.rules.specs.Meaning.{booksIn}
 
 -- ---- the first check that fails decides, whatever follows
-pub first-fails : (cs more : List Check) (a : Reply) (k : ℕ) → k ≡ firstFailing cs → (k ≡ 0 → ⊥) → refuses k ≡ checked refuses (cs ++ more) a
-first-fails [] more a k e some = absurd (some e)
-first-fails (c ∷ cs) more a k e some = go (c .passes) (λ q. first-fails cs more a k q some) e
+pub first-fails : (cs more : List Check) (a : PathReply) (k : ℕ) → k ≡ firstFailing cs → (k ≡ 0 → ⊥) → refuses k ≡ checked refuses (cs ++ more) a
+first-fails cs more a k e some = refused k some ∙ ap (unlessRefused refuses a) (e ∙ sym (failing-first cs (λ z. some (e ∙ z))))
   where
-    go : (b : Bool) → (k ≡ firstFailing cs → refuses k ≡ checked refuses (cs ++ more) a) → k ≡ cond b (firstFailing cs) (c .number)
-        → refuses k ≡ cond b (checked refuses (cs ++ more) a) (refuses (c .number))
-    go true rest q = rest q
-    go false rest q = ap refuses q
+    refused : (n : ℕ) → (n ≡ 0 → ⊥) → refuses n ≡ unlessRefused refuses a n
+    refused zero some = absurd (some refl)
+    refused (suc n) some = refl
+
+    failing-first : (l : List Check) → (firstFailing l ≡ 0 → ⊥) → firstFailing (l ++ more) ≡ firstFailing l
+    failing-first [] some = absurd (some refl)
+    failing-first (c ∷ l) some = go (c .passes) (failing-first l) some
+      where
+        go : (b : Bool) → ((firstFailing l ≡ 0 → ⊥) → firstFailing (l ++ more) ≡ firstFailing l) → (cond b (firstFailing l) (c .number) ≡ 0 → ⊥)
+            → cond b (firstFailing (l ++ more)) (c .number) ≡ cond b (firstFailing l) (c .number)
+        go true rest some = rest some
+        go false rest some = refl
 
 -- ---- the checks that a quote and an admission share
 module _ (w : List ℕ) (work room : ℕ) (r : Request) where
@@ -78,7 +87,7 @@ module _ (w : List ℕ) (work room : ℕ) (r : Request) where
         first-none e = rw (formed, le-leb 16384 work memory, le-leb 31 room buffer, e) refl
 
   -- past them the rest decides
-  pub rest-left : Passed → (more : List Check) (a : Reply) → checked refuses more a ≡ checked refuses (quoteChecks w work room r ++ more) a
+  pub rest-left : Passed → (more : List Check) (a : PathReply) → checked refuses more a ≡ checked refuses (quoteChecks w work room r ++ more) a
   unfolding books station tableIn
   rest-left p more a = rw (p .formed, le-leb 16384 work (p .memory), le-leb 31 room (p .buffer), p .request) refl
 

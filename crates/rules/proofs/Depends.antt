@@ -8,26 +8,27 @@ use mathlib.Core.List.{List, [], _∷_, _++_}
 use lib.Dec.{leb}
 use lib.ListN.{length}
 use Rattle.network.specs.declared.Request.{Request}
-use Rattle.search.specs.Alike.{Alike}
-use Rattle.search.specs.Heuristic.{search}
-use Rattle.search.proofs.Result.{result-depends}
+use Rattle.search.specs.Result.{outcome, Alike}
+use Rattle.search.proofs.Result.{outcome-depends}
 use Rattle.area.specs.Station.{station}
 use Rattle.area.specs.Books.{Books, books, net}
 use Rattle.area.specs.Formed.{wellFormed}
+use Rattle.area.specs.Refusals.{refuses}
 use Rattle.area.specs.Checks.{_unless_, checked}
 use Rattle.area.proofs.Depends.{formed-depends}
-use Rattle.rules.specs.Replies.{Reply, refuses, releases}
-use Rattle.rules.specs.Calls.{booksIn, sought, requestChecks, numberChecks, quote, admission, release}
+use Rattle.rules.specs.Replies.{PathReply, ReleaseReply, releases}
+use Rattle.rules.specs.Calls.{sought, requestChecks, numberChecks, quote, admission, release}
+use Rattle.rules.specs.Meaning.{booksIn}
 
 -- ---- the answers, by whether the area is well formed and by its books
 module _ (work room : ℕ) (r : Request) (formed : Bool) (o : Books) where
-  abbrev quoted : Reply
+  abbrev quoted : PathReply
   quoted = checked refuses ((5 unless formed) ∷ requestChecks o work room r) (sought o r)
 
-  abbrev admitted : ℕ → Reply
+  abbrev admitted : ℕ → PathReply
   admitted c = checked refuses ((5 unless formed) ∷ requestChecks o work room r ++ numberChecks o c) (sought o r)
 
-abbrev freed : ℕ → Bool → Books → Reply
+abbrev freed : ℕ → Bool → Books → ReleaseReply
 freed c formed o = checked refuses ((5 unless formed) ∷ (13 unless (o .holds c)) ∷ []) releases
 
 -- ---- areas with the same books, both well formed or both not
@@ -52,5 +53,5 @@ module _ (w w' : List ℕ) where
 -- ---- the search
 -- the granted path and its problem depend on n, which links are usable, the links' ends, delays and costs
 pub choice-depends : (o o' : Books) (r : Request) → Alike (net o (r .units)) (net o' (r .units))
-    → search (net o (r .units)) r ≡ search (net o' (r .units)) r
-choice-depends o o' r alike = result-depends (net o (r .units)) (net o' (r .units)) alike r
+    → outcome (net o (r .units)) r ≡ outcome (net o' (r .units)) r
+choice-depends o o' r alike = outcome-depends (net o (r .units)) (net o' (r .units)) alike r

@@ -1,4 +1,4 @@
--- Small facts that the laws of the calls share: a grant and a release are no refusals, a usable path is a path of the
+-- Small facts that the laws of the calls share: a grant is no refusal, a usable path is a path of the
 -- table, and what the words of an area say of its books.
 -- Assumes nothing.
 use Prim.Native.Nat.{ℕ, _≤_}
@@ -12,19 +12,16 @@ use borrow.Author.Tests.{eqb-true}
 use Rattle.network.proofs.Tests.{zero-one}
 use Rattle.network.specs.Lists.{All}
 use Rattle.network.specs.Net.{Net, Walk, IsPath}
+use Rattle.area.specs.Refusals.{refuses, grants}
 use Rattle.area.specs.Station.{Table, Circuit, headOf, station}
 use Rattle.area.specs.Books.{Books, holds, books, net, whole}
 use Rattle.area.specs.Formed.{CircuitFits}
 use Rattle.area.proofs.Found.{held-length}
-use Rattle.rules.specs.Replies.{refuses, grants, releases}
-use Rattle.rules.specs.Calls.{booksIn}
+use Rattle.rules.specs.Meaning.{booksIn}
 
 -- ---- replies
-pub granted-not-refused : (k d x : ℕ) (p : List ℕ) (n : ℕ) → refuses n ≡ grants k d x p → ⊥
-granted-not-refused k d x p n e = zero-one cc
-
-pub released-not-refused : (n : ℕ) → refuses n ≡ releases → ⊥
-released-not-refused n e = zero-one cc
+pub granted-not-refused : {A : Type 0} (b : A) (n : ℕ) → refuses n ≡ grants b → ⊥
+granted-not-refused b n e = zero-one cc
 
 -- ---- a usable path as a circuit's
 module _ (o : Books) (b : ℕ) where

@@ -4,7 +4,7 @@
 use Prim.Native.Nat.{ℕ, _≤_, _<_}
 use mathlib.Core.Path.{_≡_, refl, sym, _∙_}
 use mathlib.Core.Bool.{Bool, true, false, cond, not, true≢false}
-use mathlib.Core.List.{List, [], _∷_}
+use mathlib.Core.List.{List, [], _∷_, _++_}
 use mathlib.Core.Logic.{_⊎_, inl, inr}
 use native.Mathlib.Omega.{arith}
 use lib.Dec.{ltb, leb, eqb}
@@ -12,18 +12,20 @@ use borrow.Author.Tests.{leb-true, leb-false, ltb-true, ltb-false, lt-ltb, eqb-f
 use Rattle.network.specs.Net.{Net}
 use Rattle.network.specs.Reduce.{delayBound, costBound, Outcome, no-path, no-solution, granted}
 use Rattle.network.specs.declared.Request.{Request}
-use Rattle.network.proofs.Tests.{fst-of, snd-of, zero-one}
-use Rattle.search.specs.Heuristic.{search}
-use Rattle.search.specs.Result.{Searchable, Result}
-use Rattle.search.proofs.Result.{search-result}
+use Rattle.network.proofs.Tests.{fst-of, snd-of, unfailing, zero-one}
+use Rattle.search.specs.Result.{Searchable, outcome, GrantedByOne, GrantedByTwo, Result}
+use Rattle.search.proofs.Result.{outcome-found}
 use Rattle.area.specs.Books.{Books, books, net}
 use Rattle.area.specs.Formed.{WellFormed, inRange, wellFormed}
+use Rattle.area.specs.Refusals.{_when_, Answered}
+use Rattle.area.specs.Checks.{_unless_}
+use Rattle.area.proofs.Checks.{Tests, tests-not, tests-short, tests-full, tests-false, checked-answers}
 use Rattle.area.proofs.Formed.{both, range-says, range-test, formed-says, formed-test}
 use Rattle.rules.specs.Requests.{RequestFits, requestFits}
-use Rattle.rules.specs.Replies.{Reply, refuses, replyOf}
-use Rattle.rules.specs.Calls.{booksIn, sought, numberFits, quote, admission, release}
-use Rattle.rules.specs.Allowed.{Rule, _when_, Answered, Grant, by-one, by-two, searchRules, NumberFits}
-use Rattle.rules.specs.Meaning.{netFor, Quoted, Admitted, Cleared}
+use Rattle.rules.specs.Replies.{replyOf, releases}
+use Rattle.rules.specs.Calls.{sought, numberFits, quoteChecks, admitChecks, releaseChecks, quote, admission, release}
+use Rattle.rules.specs.Allowed.{Grant, searchRules, NumberFits, numberRules, releaseRules}
+use Rattle.rules.specs.Meaning.{booksIn, quoteRules, netFor, Quoted, Admitted, Cleared}
 
 -- ---- a request's ranges, and a circuit number's: the test says what the statement says
 module _ (n : ℕ) (r : Request) where
@@ -75,34 +77,6 @@ module _ (o : Books) (c : ℕ) where
   unfolding numberFits
   number-test h = both (inRange 1 65535 c) _ (range-test 1 65535 c (h .least) (h .most)) (rw (h .new))
 
--- ---- one check, before the rules rs with the reply a
-module _ (G : Reply → Type 0) (rs : List Rule) (a : Reply) (k : ℕ) where
-  -- a test that fails just where its rule applies
-  check : {P : Type 0} (b : Bool) → (b ≡ true → P → ⊥) → (b ≡ false → P) → (b ≡ true → Answered G rs a)
-      → Answered G ((k when P) ∷ rs) (cond b a (refuses k))
-  unfolding Answered
-  check true passes fails on = inr (passes refl, on refl)
-  check false passes fails on = inl (fails refl, refl)
-
-  -- a rule that applies where a statement does not hold, with the statement's test
-  unmet : {P : Type 0} (b : Bool) → (b ≡ true → P) → (P → b ≡ true) → (P → Answered G rs a)
-      → Answered G ((k when (P → ⊥)) ∷ rs) (cond b a (refuses k))
-  unmet b says test on =
-      check b (λ e lacks. lacks (says e)) (λ e h. true≢false (sym (test h) ∙ e)) (λ e. on (says e))
-
-  -- a rule that applies where a number is too small
-  short : (least n : ℕ) → Answered G rs a → Answered G ((k when n < least) ∷ rs) (cond (leb least n) a (refuses k))
-  short least n on = check (leb least n) (λ e low. omega (arith, leb-true least n e)) (leb-false least n) (λ e. on)
-
-  -- a rule that applies where a number is too great
-  full : (n most : ℕ) → Answered G rs a → Answered G ((k when most ≤ n) ∷ rs) (cond (ltb n most) a (refuses k))
-  full n most on = check (ltb n most) (λ e high. omega (arith, ltb-true n most e)) (ltb-false n most) (λ e. on)
-
--- past every rule the reply is as G says
-no-rule : (G : Reply → Type 0) (a : Reply) → G a → Answered G [] a
-unfolding Answered
-no-rule G a h = h
-
 -- ---- the search
 -- a well-formed area and a request that fits may be searched
 pub area-searchable : (w : List ℕ) (r : Request) → WellFormed w → RequestFits (booksIn w .table .nodes) r → Searchable (netFor w r) r
@@ -123,22 +97,24 @@ area-searchable w r formed fits =
     }
 
 module _ (g : Net) (r : Request) where
-  -- what a problem granted
-  grant : (k : ℕ) (p : List ℕ) → Result g r (granted k p) → (k ≡ 1) ⊎ (k ≡ 2) → Grant g r (replyOf g (granted k p))
-  unfolding replyOf
-  grant k p h (inl e) = rw e (by-one p (h .by-one p (rw e)))
-  grant k p h (inr e) = rw e (by-two p (h .by-two p (rw e)))
+  -- which problem granted
+  by-problem : (k : ℕ) (p : List ℕ) → Result g r (granted k p) → (k ≡ 1) ⊎ (k ≡ 2)
+      → ((k ≡ 1) × GrantedByOne g r p) ⊎ ((k ≡ 2) × GrantedByTwo g r p)
+  by-problem k p h (inl e) = inl (e, h .by-one p (rw e))
+  by-problem k p h (inr e) = inr (e, h .by-two p (rw e))
 
   -- every outcome is one of the two refusals or a grant
   replied : (o : Outcome) → Result g r o → Answered (Grant g r) (searchRules g r) (replyOf g o)
-  unfolding replyOf Answered
+  unfolding replyOf
   replied no-path h = inl (h .nowhere .0 refl, refl)
   replied no-solution h = inr (λ lacks. never (h .nowhere .1 lacks), inl (h .unsolved .0 refl, refl))
     where
       never : no-solution ≡ no-path → ⊥
       never e = zero-one cc
-  replied (granted k p) h =
-      inr (λ lacks. nowhere (h .nowhere .1 lacks), inr (λ lacks. unsolved (h .unsolved .1 lacks), grant k p h (h .no-other k p refl)))
+  replied (granted k p) h = (
+    (λ lacks. nowhere (h .nowhere .1 lacks), (λ lacks. unsolved (h .unsolved .1 lacks), tt)),
+    record { least = by-problem k p h (h .no-other k p refl); delay = refl; cost = refl },
+  )
     where
       nowhere : granted k p ≡ no-path → ⊥
       nowhere e = zero-one cc
@@ -151,34 +127,65 @@ pub sought-means : (w : List ℕ) (r : Request) → WellFormed w → RequestFits
     → Answered (Grant (netFor w r) r) (searchRules (netFor w r) r) (sought (booksIn w) r)
 unfolding sought
 sought-means w r formed fits =
-    replied (netFor w r) r (search (netFor w r) r) (search-result (netFor w r) r (area-searchable w r formed fits))
+    replied (netFor w r) r (outcome (netFor w r) r) (outcome-found (netFor w r) r (area-searchable w r formed fits))
 
 -- ---- the calls
--- every reply of a quote is the one that the rules give
-pub quote-means : (w : List ℕ) (work room : ℕ) (r : Request) → Quoted w work room r (quote w work room r)
-unfolding quote
-quote-means w work room r =
-    unmet _ _ _ _ (wellFormed w) (formed-says w) (formed-test w) λ formed.
-    short _ _ _ _ 16384 work
-    (short _ _ _ _ 31 room
-    (unmet _ _ _ _ (requestFits (booksIn w .table .nodes) r) (request-says _ r) (request-test _ r) λ fits.
-    sought-means w r formed fits))
+-- what a statement says where its rule does not apply
+pub formed-past : (w : List ℕ) → ((WellFormed w → ⊥) → ⊥) → WellFormed w
+formed-past w = unfailing (wellFormed w) (formed-says w) (formed-test w)
 
--- every reply of an admission
-pub admission-means : (w : List ℕ) (work room c : ℕ) (r : Request) → Admitted w work room c r (admission w work room c r)
-unfolding admission
-admission-means w work room c r =
-    unmet _ _ _ _ (wellFormed w) (formed-says w) (formed-test w) λ formed.
-    short _ _ _ _ 16384 work
-    (short _ _ _ _ 31 room
-    (unmet _ _ _ _ (requestFits (booksIn w .table .nodes) r) (request-says _ r) (request-test _ r) λ fits.
-    unmet _ _ _ _ (numberFits (booksIn w) c) (number-says _ c) (number-test _ c) λ new.
-    full _ _ _ _ (booksIn w .count) 64 (sought-means w r formed fits)))
+pub request-past : (n : ℕ) (r : Request) → ((RequestFits n r → ⊥) → ⊥) → RequestFits n r
+request-past n r = unfailing (requestFits n r) (request-says n r) (request-test n r)
 
--- every reply of a release
-pub release-means : (w : List ℕ) (c : ℕ) → Cleared w c (release w c)
-unfolding release
-release-means w c =
-    unmet _ _ _ _ (wellFormed w) (formed-says w) (formed-test w) λ formed.
-    check _ _ _ _ (booksIn w .holds c) (λ e lacks. true≢false (sym e ∙ lacks)) (λ e. e) λ e.
-    no-rule _ _ refl
+pub number-past : (o : Books) (c : ℕ) → ((NumberFits o c → ⊥) → ⊥) → NumberFits o c
+number-past o c = unfailing (numberFits o c) (number-says o c) (number-test o c)
+
+module _ (w : List ℕ) where
+  -- the test of an area, which every call makes first
+  area-tested : Tests (5 unless wellFormed w) (5 when (WellFormed w → ⊥))
+  area-tested = tests-not 5 (omega arith) (wellFormed w) (formed-says w) (formed-test w)
+
+  -- each check of a request tests its rule
+  module _ (work room : ℕ) (r : Request) where
+    memory-tested : Tests (6 unless leb 16384 work) (6 when work < 16384)
+    memory-tested = tests-short 6 (omega arith) 16384 work
+
+    buffer-tested : Tests (7 unless leb 31 room) (7 when room < 31)
+    buffer-tested = tests-short 7 (omega arith) 31 room
+
+    request-tested : Tests (8 unless requestFits (booksIn w .table .nodes) r) (8 when (RequestFits (booksIn w .table .nodes) r → ⊥))
+    request-tested = tests-not 8 (omega arith) (requestFits (booksIn w .table .nodes) r) (request-says _ r) (request-test _ r)
+
+    -- past them the search may be asked
+    sought-past : ((WellFormed w → ⊥) → ⊥) → ((RequestFits (booksIn w .table .nodes) r → ⊥) → ⊥)
+        → Answered (Grant (netFor w r) r) (searchRules (netFor w r) r) (sought (booksIn w) r)
+    sought-past formed fits = sought-means w r (formed-past w formed) (request-past _ r fits)
+
+    -- every reply of a quote is the one that the rules give
+    pub quote-means : Quoted w work room r (quote w work room r)
+    unfolding quote
+    quote-means =
+        checked-answers (Grant (netFor w r) r) (quoteChecks w work room r) (quoteRules w work room r)
+        (area-tested, (memory-tested, (buffer-tested, (request-tested, tt)))) (searchRules (netFor w r) r) (sought (booksIn w) r)
+        (λ p. sought-past (p .0) (p .1 .1 .1 .0))
+
+    -- every reply of an admission
+    pub admission-means : (c : ℕ) → Admitted w work room c r (admission w work room c r)
+    unfolding admission
+    admission-means c =
+        checked-answers (Grant (netFor w r) r) (admitChecks w work room c r) (quoteRules w work room r ++ numberRules (booksIn w) c)
+        (area-tested, (memory-tested, (buffer-tested, (request-tested, (number-tested, (tests-full 12 (omega arith) (booksIn w .count) 64, tt))))))
+        (searchRules (netFor w r) r)
+        (sought (booksIn w) r)
+        (λ p. sought-past (p .0) (p .1 .1 .1 .0))
+      where
+        number-tested : Tests (11 unless numberFits (booksIn w) c) (11 when (NumberFits (booksIn w) c → ⊥))
+        number-tested = tests-not 11 (omega arith) (numberFits (booksIn w) c) (number-says (booksIn w) c) (number-test (booksIn w) c)
+
+  -- every reply of a release
+  pub release-means : (c : ℕ) → Cleared w c (release w c)
+  unfolding release
+  release-means c =
+      checked-answers (λ _. Unit {0}) (releaseChecks w c) ((5 when (WellFormed w → ⊥)) ∷ releaseRules (booksIn w) c)
+      (area-tested, (tests-false 13 (omega arith) (booksIn w .holds c), tt)) [] releases
+      (λ p. (tt, tt))

@@ -13,8 +13,7 @@ use Rattle.network.specs.Net.{Net}
 use Rattle.network.specs.Words.{field, netOf}
 use Rattle.network.specs.declared.Request.{Request}
 use Rattle.network.proofs.Tests.{by-lt}
-use Rattle.search.specs.Heuristic.{search}
-use Rattle.search.specs.Ready.{Ready}
+use Rattle.search.specs.Result.{Ready, outcome}
 use Rattle.area.specs.Station.{tableIn, station, wordsAt}
 use Rattle.area.specs.Books.{books, net, free}
 use Rattle.area.specs.Formed.{WellFormed, wellFormed, TableFits}
@@ -25,9 +24,9 @@ use Rattle.area.proofs.FreeUnits.{flag-says}
 use Rattle.area.proofs.WordsAt.{words-length}
 use Rattle.rules.specs.Requests.{RequestFits}
 use Rattle.rules.specs.Replies.{replyOf}
-use Rattle.rules.specs.Calls.{booksIn, sought}
+use Rattle.rules.specs.Calls.{sought}
 use Rattle.rules.specs.Ready.{Seekable}
-use Rattle.rules.specs.Meaning.{netFor}
+use Rattle.rules.specs.Meaning.{booksIn, netFor}
 use Rattle.rules.proofs.Meaning.{request-says}
 
 module _ (w : List ℕ) (ok : wellFormed w ≡ true) where
@@ -136,6 +135,6 @@ module _ (w units flags work path : List ℕ) (r : Request) (ok : Seekable w uni
   search-net = rw (links-are, is-n, is-m) (seek-net w (ok .formed) (r .units) (asked .units-least) units flags (ok .units) whole flagged)
 
   -- the reply for what the search found is the one that the books give
-  pub reply-is : replyOf (netOf n k links flags) (search (netOf n k links flags) r) ≡ sought (booksIn w) r
+  pub reply-is : replyOf (netOf n k links flags) (outcome (netOf n k links flags) r) ≡ sought (booksIn w) r
   unfolding sought
-  reply-is = ap (λ (g : Net). replyOf g (search g r)) search-net
+  reply-is = ap (λ (g : Net). replyOf g (outcome g r)) search-net

@@ -11,29 +11,17 @@ use Rattle.network.specs.Problem.{NoPath}
 use Rattle.network.specs.declared.Request.{Request}
 use Rattle.search.specs.Result.{Unsolved, GrantedByOne, GrantedByTwo}
 use Rattle.area.specs.Books.{Books}
+use Rattle.area.specs.Refusals.{Rule, _when_}
 use Rattle.rules.specs.Requests.{RequestFits}
-use Rattle.rules.specs.Replies.{Reply, refuses, grants}
-
--- a rule: its number, and when it applies
-pub record Rule : Type 1 where
-  pub number : ℕ
-  pub applies : Type 0
-
-infix 3 _when_
-abbrev pub _when_ : ℕ → Type 0 → Rule
-n when p = record { number = n; applies = p }
-
--- a call is refused by the first rule that applies; where none does, its reply is as G says
-unfoldable pub Answered : (Reply → Type 0) → List Rule → Reply → Type 0
-Answered G [] a = G a
-Answered G (r ∷ rs) a = (r .applies × (a ≡ refuses (r .number))) ⊎ ((r .applies → ⊥) × Answered G rs a)
+use Rattle.rules.specs.Replies.{PathGrant}
 
 module _ (g : Net) (r : Request) where
-  -- problem 1 with a best solution of problem one; or problem 2, where problem one has none, with a best solution of
-  -- problem two; the delay and the cost are the path's own sums
-  pub data Grant : Reply → Type 0 where
-    by-one : (p : List ℕ) → GrantedByOne g r p → Grant (grants 1 (sum (g .delay) p) (sum (g .cost) p) p)
-    by-two : (p : List ℕ) → GrantedByTwo g r p → Grant (grants 2 (sum (g .delay) p) (sum (g .cost) p) p)
+  -- what a grant is: problem 1 with a best solution of problem one; or problem 2, where problem one has none, with a best
+  -- solution of problem two; the delay and the cost are the path's own sums
+  pub record Grant (a : PathGrant) : Type 0 where
+    pub least : ((a .problem ≡ 1) × GrantedByOne g r (a .path)) ⊎ ((a .problem ≡ 2) × GrantedByTwo g r (a .path))
+    pub delay : a .delay ≡ sum (g .delay) (a .path)
+    pub cost : a .cost ≡ sum (g .cost) (a .path)
 
   -- 9 if no usable path exists; 10 if one exists but neither problem has a solution
   abbrev pub searchRules : List Rule

@@ -6,23 +6,22 @@ use mathlib.Core.Bool.{Bool, not, _&&_}
 use mathlib.Core.List.{List, [], _∷_, _++_}
 use lib.Dec.{ltb, leb}
 use Rattle.network.specs.declared.Request.{Request}
-use Rattle.search.specs.Heuristic.{search}
+use Rattle.search.specs.Result.{outcome}
 use Rattle.area.specs.Station.{station, heldIn}
 use Rattle.area.specs.Books.{Books, books, net}
 use Rattle.area.specs.Held.{foundAt}
 use Rattle.area.specs.Formed.{inRange, wellFormed}
+use Rattle.area.specs.Refusals.{refuses, grants}
 use Rattle.area.specs.Checks.{Check, _unless_, checked}
 use Rattle.area.specs.Moves.{added, removed}
 use Rattle.rules.specs.Requests.{requestFits}
-use Rattle.rules.specs.Replies.{Reply, refuses, grants, releases, replyOf}
-
-abbrev pub booksIn : List ℕ → Books
-booksIn w = books (station w)
+use Rattle.rules.specs.Replies.{PathReply, replyOf, ReleaseReply, releases}
+use Rattle.rules.specs.Meaning.{booksIn, circuitFor}
 
 -- what the route search replies to a request, by the books alone
-unfoldable pub sought : Books → Request → Reply
+unfoldable pub sought : Books → Request → PathReply
 unfolding net replyOf
-sought o r = replyOf (net o (r .units)) (search (net o (r .units)) r)
+sought o r = replyOf (net o (r .units)) (outcome (net o (r .units)) r)
 
 -- a circuit number that an admission takes: in its range and not held
 unfoldable pub numberFits : Books → ℕ → Bool
@@ -49,28 +48,26 @@ admitChecks w work room c r = quoteChecks w work room r ++ numberChecks (booksIn
 abbrev pub releaseChecks : List ℕ → ℕ → List Check
 releaseChecks w c = (5 unless wellFormed w) ∷ (13 unless (booksIn w .holds c)) ∷ []
 
-unfoldable pub quote : List ℕ → ℕ → ℕ → Request → Reply
+unfoldable pub quote : List ℕ → ℕ → ℕ → Request → PathReply
 unfolding wellFormed station books requestFits sought
 quote w work room r = checked refuses (quoteChecks w work room r) (sought (booksIn w) r)
 
-unfoldable pub admission : List ℕ → ℕ → ℕ → ℕ → Request → Reply
+unfoldable pub admission : List ℕ → ℕ → ℕ → ℕ → Request → PathReply
 unfolding wellFormed station books requestFits numberFits sought
 admission w work room c r = checked refuses (admitChecks w work room c r) (sought (booksIn w) r)
 
 -- the area after an admission's reply: a granted one adds the circuit
-unfoldable pub booked : List ℕ → ℕ → ℕ → Reply → List ℕ
+unfoldable pub booked : List ℕ → ℕ → ℕ → PathReply → List ℕ
 unfolding added
 booked w c u (refuses k) = w
-booked w c u (grants k d x p) = added w (record { number = c; units = u; path = p })
-booked w c u releases = w
+booked w c u (grants g) = added w (circuitFor c u (g .path))
 
-unfoldable pub release : List ℕ → ℕ → Reply
+unfoldable pub release : List ℕ → ℕ → ReleaseReply
 unfolding wellFormed station books
 release w c = checked refuses (releaseChecks w c) releases
 
 -- the area after a release's reply: a granted one takes out the circuit with this number
-unfoldable pub cleared : List ℕ → ℕ → Reply → List ℕ
+unfoldable pub cleared : List ℕ → ℕ → ReleaseReply → List ℕ
 unfolding removed foundAt
 cleared w c (refuses k) = w
-cleared w c (grants k d x p) = w
-cleared w c releases = removed w (foundAt w (heldIn w) c)
+cleared w c (grants _) = removed w (foundAt w (heldIn w) c)

@@ -1,9 +1,9 @@
--- The files of the calls' definitions, in reading order: requests, replies, what each call replies, what that means;
--- service classes; what the search on an area relies on.
+-- The files of the calls' definitions, in reading order: requests, replies, what each call's reply may be and what an
+-- answer means, what the code computes; service classes; what the search on an area relies on.
 pub mod Requests
 pub mod Replies
-pub mod Calls
 pub mod Allowed
 pub mod Meaning
+pub mod Calls
 pub mod Classes
 pub mod Ready

@@ -1,41 +1,70 @@
 -- What quote, admission and release reply, what they leave in the path buffer, and the enums that the code answers with.
 -- Assumes nothing.
 use Prim.Native.Nat.{ℕ}
-use mathlib.Core.List.{List, _++_}
+use mathlib.Core.List.{List, [], _++_}
 use lib.ListN.{length, drop}
 use Rattle.network.specs.Net.{Net, sum}
 use Rattle.network.specs.Reduce.{Outcome, no-path, no-solution, granted}
 use Rattle.network.specs.declared.Answer.{Answer as Found}
 use Rattle.network.specs.declared.Answer.the-variants as found
-use Rattle.rules.specs.declared.Answer.{Answer}
-use Rattle.rules.specs.declared.Answer.the-variants.{Refused, Granted, Released}
+use Rattle.area.specs.Refusals.{Reply, refuses, grants}
+use Rattle.rules.specs.declared.RequestAnswer.{RequestAnswer}
+use Rattle.rules.specs.declared.RequestAnswer.the-variants.{Refused, Granted}
+use Rattle.rules.specs.declared.ReleaseAnswer.{ReleaseAnswer}
+use Rattle.rules.specs.declared.ReleaseAnswer.the-variants as release
 
--- refused with document 01's number; granted with the problem, the path and its sums; or released
-pub data Reply : Type 0 where
-  refuses : (number : ℕ) → Reply
-  grants : (problem delay cost : ℕ) → (path : List ℕ) → Reply
-  releases : Reply
+-- ---- quote and admission
+-- what they grant: the problem, and a path with its delay and cost
+pub record PathGrant : Type 0 where
+  pub problem : ℕ
+  pub delay : ℕ
+  pub cost : ℕ
+  pub path : List ℕ
+
+abbrev pub PathReply : Type 0
+PathReply = Reply PathGrant
+
+-- the reply that grants the path p by problem k, with delay d and cost x
+abbrev pub granting : ℕ → ℕ → ℕ → List ℕ → PathReply
+granting k d x p = grants (record { problem = k; delay = d; cost = x; path = p })
 
 -- the code's answer for each reply: document 01's number, or the problem, delay, cost and number of links
-unfoldable pub answerOf : Reply → Answer
+unfoldable pub answerOf : PathReply → RequestAnswer
 answerOf (refuses k) = Refused k
-answerOf (grants k d c p) = Granted (record { problem = k; delay = d; cost = c; links = length p })
-answerOf releases = Released
+answerOf (grants g) =
+    Granted (record { problem = g .problem; delay = g .delay; cost = g .cost; links = length (g .path) })
 
+-- the words of the path that it grants
+abbrev pub pathOf : PathReply → List ℕ
+pathOf (refuses k) = []
+pathOf (grants g) = g .path
+
+-- a granted path stands in the first l words of the path buffer, the others keep theirs; a refusal changes none
+unfoldable pub pathAfter : PathReply → List ℕ → List ℕ
+pathAfter (refuses k) l = l
+pathAfter (grants g) l = g .path ++ drop (length (g .path)) l
+
+-- ---- what the search found
 -- document 01's number and values for each case of the search's answer
-unfoldable pub told : Found → Answer
+unfoldable pub told : Found → RequestAnswer
 told found.NoPath = Refused 9
 told found.NoSolution = Refused 10
 told (found.Granted g) = Granted g
 
 -- the reply for what a search on a network found
-unfoldable pub replyOf : Net → Outcome → Reply
+unfoldable pub replyOf : Net → Outcome → PathReply
 replyOf g no-path = refuses 9
 replyOf g no-solution = refuses 10
-replyOf g (granted which p) = grants which (sum (g .delay) p) (sum (g .cost) p) p
+replyOf g (granted which p) = granting which (sum (g .delay) p) (sum (g .cost) p) p
 
--- a granted path stands in the first l words of the path buffer, the others keep theirs; a refusal changes none
-unfoldable pub pathAfter : Reply → List ℕ → List ℕ
-pathAfter (refuses k) l = l
-pathAfter (grants k d c p) l = p ++ drop (length p) l
-pathAfter releases l = l
+-- ---- release
+-- it grants that the circuit goes, and nothing besides
+abbrev pub ReleaseReply : Type 0
+ReleaseReply = Reply (Unit {0})
+
+abbrev pub releases : ReleaseReply
+releases = grants tt
+
+unfoldable pub releaseAnswerOf : ReleaseReply → ReleaseAnswer
+releaseAnswerOf (refuses k) = release.Refused k
+releaseAnswerOf (grants _) = release.Released

@@ -3,10 +3,15 @@
 // the answers' types.
 use network::Grant;
 
-// What a call answers: document 01's number; a granted path's problem, delay, cost and number of links; or released.
-pub enum Answer {
+// What a quote or an admission answers: document 01's number, or a granted path's problem, delay, cost and number of links.
+pub enum RequestAnswer {
     Refused(u32),
     Granted(Grant),
+}
+
+// What a release answers: document 01's number, or released.
+pub enum ReleaseAnswer {
+    Refused(u32),
     Released,
 }
 

@@ -17,7 +17,7 @@ use Rattle.network.specs.Cut.{follow}
 use Rattle.network.specs.Reduce.{delayBound, costBound, problemOne, problemTwo}
 use Rattle.network.proofs.Tests.{by-lt}
 use Rattle.network.proofs.Loops.{iter-done, iter-same, first-same}
-use Rattle.search.specs.Alike.{Alike}
+use Rattle.search.specs.Result.{Alike}
 use Rattle.search.specs.Distance.{spreadLink, spread, layer, distance}
 
 -- two loops of equally many turns that agree

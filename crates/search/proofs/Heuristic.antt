@@ -17,7 +17,7 @@ use Rattle.search.specs.ebf.Solve.{solve}
 use Rattle.search.specs.Heuristic.{outcomeOf, orElse, tried, somewhere, search}
 use Rattle.search.proofs.Distance.{distance-found, distance-none}
 use Rattle.search.proofs.ebf.Solved.{Solved, solved}
-use Rattle.search.specs.Alike.{Alike}
+use Rattle.search.specs.Result.{Alike}
 use Rattle.search.proofs.Alike.{distance-depends, one-depends, two-depends}
 use Rattle.search.proofs.ebf.Alike.{solve-depends}
 

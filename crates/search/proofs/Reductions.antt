@@ -24,8 +24,7 @@ use Rattle.search.specs.Solver.{Sound, problemOf}
 use Rattle.network.specs.declared.Answer.{Answer}
 use Rattle.network.specs.declared.Answer.the-variants.{NoPath, NoSolution}
 use Rattle.search.specs.declared.Roles.{Roles}
-use Rattle.search.specs.Answers.{answerOf, pathAfter}
-use Rattle.search.specs.Ready.{Ready}
+use Rattle.search.specs.Result.{Ready, outcome, answerOf, pathAfter}
 use Rattle.search.specs.Roles.{Weights, rolesOne, rolesTwo, problemBy, outcomeBy}
 
 -- ---- one problem
@@ -149,10 +148,10 @@ module _ (n m : ℕ) (links usable : List ℕ) (r : Request) {s t : ℕ} (from :
   far-is = rw (← from, ← to) far
 
   pub search-nowhere : n ≤ k → (path : List ℕ)
-      → (NoPath ≡ answerOf (netOf n m links usable) (search (netOf n m links usable) r)) × (path ≡ pathAfter (search (netOf n m links usable) r) path)
-  unfolding search netOf answerOf pathAfter
+      → (NoPath ≡ answerOf (netOf n m links usable) (outcome (netOf n m links usable) r)) × (path ≡ pathAfter (outcome (netOf n m links usable) r) path)
+  unfolding outcome search netOf answerOf pathAfter
   search-nowhere high path =
-      let none : search (netOf n m links usable) r ≡ no-path = simp (le-ltb _ _ (rw far-is at high)) in
+      let none : outcome (netOf n m links usable) r ≡ no-path = simp (le-ltb _ _ (rw far-is at high)) in
       (ap (answerOf (netOf n m links usable)) (sym none), ap (λ (o : Outcome). pathAfter o path) (sym none))
 
   pub search-somewhere : {x : ℕ} (path : List ℕ) {a : Answer} {path₁ : List ℕ} → a ≡ answerOf (netOf n m links usable) (tried (netOf n m links usable) r x)
@@ -161,8 +160,8 @@ module _ (n m : ℕ) (links usable : List ℕ) (r : Request) {s t : ℕ} (from :
       → {c : ℕ}
       → c ≡ r .coefficient
       → x ≡ c * k
-      → (a ≡ answerOf (netOf n m links usable) (search (netOf n m links usable) r)) × (path₁ ≡ pathAfter (search (netOf n m links usable) r) path)
-  unfolding search netOf
+      → (a ≡ answerOf (netOf n m links usable) (outcome (netOf n m links usable) r)) × (path₁ ≡ pathAfter (outcome (netOf n m links usable) r) path)
+  unfolding outcome search netOf
   search-somewhere {x = x} path told left low co e =
-      let some : tried (netOf n m links usable) r x ≡ search (netOf n m links usable) r = rw (e, co, far-is) (simp (lt-ltb _ _ (rw far-is at low))) in
+      let some : tried (netOf n m links usable) r x ≡ outcome (netOf n m links usable) r = rw (e, co, far-is) (simp (lt-ltb _ _ (rw far-is at low))) in
       (told ∙ ap (answerOf (netOf n m links usable)) some, left ∙ ap (λ (o : Outcome). pathAfter o path) some)

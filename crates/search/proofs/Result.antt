@@ -1,4 +1,5 @@
--- The search keeps its stated result. The four outcomes exclude each other, so each refusal is given exactly where
+-- The outcome of a search keeps its stated result, and depends on the network and the request alone: all that the rooms
+-- above know of it. The four outcomes exclude each other, so each refusal is given exactly where
 -- its reason holds.
 -- Assumes nothing.
 use Prim.Native.Nat.{ℕ}
@@ -12,11 +13,8 @@ use Rattle.network.specs.declared.Request.{Request}
 use Rattle.network.specs.Problem.{NoPath}
 use Rattle.network.specs.Reduce.{Outcome, no-path, no-solution, granted, Found}
 use Rattle.network.proofs.Bounds.{one-distance, found-within, found-enough}
-use Rattle.search.specs.Alike.{Alike}
-use Rattle.search.specs.Heuristic.{search}
 use Rattle.search.proofs.Heuristic.{search-finds, search-depends}
-use Rattle.search.specs.Ready.{Ready}
-use Rattle.search.specs.Result.{Searchable, Unsolved, GrantedByOne, GrantedByTwo, Result}
+use Rattle.search.specs.Result.{Ready, Searchable, outcome, Unsolved, GrantedByOne, GrantedByTwo, Result, Alike}
 use Rattle.search.proofs.ebf.Outcomes.{net-ends}
 
 module _ (g : Net) (r : Request) where
@@ -66,9 +64,10 @@ module _ (g : Net) (r : Request) where
   unsolved-says lacks o (Found.by-two k p far h best) =
       let same : k ≡ lacks .0 = one-distance g _ _ k (lacks .0) far (lacks .1) in absurd (lacks .3 p (rw same at (best .solves)))
 
-  -- the stated result
-  pub search-result : Searchable g r → Result g r (search g r)
-  search-result ok =
+  -- it is what must be found
+  pub outcome-found : Searchable g r → Result g r (outcome g r)
+  unfolding outcome
+  outcome-found ok =
       let found = search-finds g r (ok .ends) (ok .few) (ok .source) (ok .target) (ok .apart) in
       record {
         nowhere = (says-nowhere _ found, λ lacks. nowhere-says lacks _ found);
@@ -80,10 +79,10 @@ module _ (g : Net) (r : Request) where
         enough = found-enough g r (ok .coefficient-some) (ok .delay-some) (ok .cost-some) (ok .apart) _ found;
       }
 
--- and what it finds, the granted path included, depends on the network and the request alone, and of the network only on
--- n, which links are usable, the links' ends, delays and costs
-pub result-depends : (g o : Net) → Alike g o → (r : Request) → search g r ≡ search o r
-result-depends = search-depends
+-- it depends, the granted path included, on the network and the request alone, and of the network only on n, which links are usable, the links' ends, delays and costs
+pub outcome-depends : (g o : Net) → Alike g o → (r : Request) → outcome g r ≡ outcome o r
+unfolding outcome
+outcome-depends = search-depends
 
 -- what the code's `requires` asks is enough for it
 pub ready-searchable : (n m : ℕ) (links usable work path : List ℕ) (r : Request) → Ready n m links usable work path r

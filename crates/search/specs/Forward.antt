@@ -7,6 +7,8 @@ use lib.Dec.{eqb, leb}
 use lib.ListN.{getD, set}
 use Rattle.network.specs.Loops.{iter}
 use Rattle.network.specs.Net.{Net}
+use Rattle.network.specs.declared.Answer.{Answer}
+use Rattle.network.specs.declared.Answer.the-variants.{Granted}
 use Rattle.search.specs.declared.Leg.{Leg}
 
 abbrev pub legStart : ℕ → Leg
@@ -34,3 +36,7 @@ pub record OnWay (n k : ℕ) (w : Leg) : Type 0 where
   pub links : w .links ≤ k
   pub delay : w .delay ≤ 1000000 * w .links
   pub cost : w .cost ≤ 1000000 * w .links
+
+-- a grant of the problem `which`, from the pass along its path
+abbrev pub grantOf : ℕ → Leg → Answer
+grantOf which w = Granted (record { problem = which; delay = w .delay; cost = w .cost; links = w .links })

@@ -1,14 +1,37 @@
--- The stated result of the route search, on which the laws of the calls rest and on nothing else of it. It speaks of the
--- network, the request and the outcome alone, and of no table.
+-- The stated result of the route search, on which everything above the search rests and on nothing else of it: what it
+-- relies on, what it finds and answers, and what that may depend on. It names no table; `outcome` is opened only where a
+-- case is computed.
 -- Assumes nothing.
 use Prim.Native.Nat.{ℕ, _≤_, _<_}
 use mathlib.Core.Path.{_≡_}
-use mathlib.Core.List.{List}
+use mathlib.Core.List.{List, _++_}
 use mathlib.Core.Logic.{_⊎_, _↔_}
-use Rattle.network.specs.Net.{Net, Ends, IsPath}
+use lib.ListN.{length, drop}
+use Rattle.network.specs.Net.{Net, Ends, IsPath, sum}
+use Rattle.network.specs.Words.{Links}
 use Rattle.network.specs.Problem.{Best, NoPath, NoSolution, Distance}
 use Rattle.network.specs.declared.Request.{Request}
+use Rattle.network.specs.declared.Answer.{Answer}
+use Rattle.network.specs.declared.Answer.the-variants as answer
 use Rattle.network.specs.Reduce.{delayBound, costBound, one, two, WithinBounds, Enough, Outcome, no-path, no-solution, granted}
+use Rattle.search.specs.Heuristic.{search}
+
+-- ---- what it relies on
+-- the ranges and lengths that `route::search` requires; the upper crate checks them before it searches
+pub record Ready (n m : ℕ) (links usable work path : List ℕ) (r : Request) : Type 0 where
+  pub table : Links n m links
+  pub flags : m ≤ length usable
+  pub memory : 16384 ≤ length work
+  pub buffer : 31 ≤ length path
+  pub source : r .source < n
+  pub target : r .target < n
+  pub apart : r .source ≡ r .target → ⊥
+  pub delay-some : 0 < delayBound r
+  pub delay-most : delayBound r ≤ 31000000
+  pub cost-some : 0 < costBound r
+  pub cost-most : costBound r ≤ 31000000
+  pub coefficient-some : 0 < r .coefficient
+  pub coefficient-most : r .coefficient ≤ 8
 
 -- a network and a request that may be searched for: document 01's ranges, as far as the result needs them
 pub record Searchable (g : Net) (r : Request) : Type 0 where
@@ -20,6 +43,12 @@ pub record Searchable (g : Net) (r : Request) : Type 0 where
   pub delay-some : 0 < delayBound r
   pub cost-some : 0 < costBound r
   pub coefficient-some : 0 < r .coefficient
+
+-- ---- what it finds
+-- the outcome of a search: a function of the network and the request alone
+unfoldable pub outcome : Net → Request → Outcome
+unfolding search
+outcome g r = search g r
 
 module _ (g : Net) (r : Request) where
   -- a path exists, at distance k, and neither problem has a solution
@@ -51,3 +80,29 @@ module _ (g : Net) (r : Request) where
     -- Theorem 2: an overqualified path is always enough
     pub enough : (k : ℕ) → Distance g (r .source) (r .target) k → (p : List ℕ) → IsPath g (r .source) (r .target) p → Enough g r k p
         → (which : ℕ) × (path : List ℕ) × (o ≡ granted which path)
+
+-- ---- what it depends on
+-- two networks that agree in all that a search may depend on: document 01's n, which links are usable, the links' ends,
+-- delays and costs
+pub record Alike (g o : Net) : Type 0 where
+  pub nodes : g .nodes ≡ o .nodes
+  pub links : g .links ≡ o .links
+  pub tail : (i : ℕ) → i < g .links → g .tail i ≡ o .tail i
+  pub head : (i : ℕ) → i < g .links → g .head i ≡ o .head i
+  pub usable : (i : ℕ) → i < g .links → g .usable i ≡ o .usable i
+  pub delay : (i : ℕ) → i < g .links → g .delay i ≡ o .delay i
+  pub cost : (i : ℕ) → i < g .links → g .cost i ≡ o .cost i
+
+-- ---- what it answers
+-- the code's enum for each outcome: the totals are the path's own sums
+unfoldable pub answerOf : Net → Outcome → Answer
+answerOf g no-path = answer.NoPath
+answerOf g no-solution = answer.NoSolution
+answerOf g (granted which p) =
+    answer.Granted (record { problem = which; delay = sum (g .delay) p; cost = sum (g .cost) p; links = length p })
+
+-- a granted path stands in the first words of the path buffer, the others keep theirs; else no word changes
+unfoldable pub pathAfter : Outcome → List ℕ → List ℕ
+pathAfter no-path l = l
+pathAfter no-solution l = l
+pathAfter (granted which p) l = p ++ drop (length p) l

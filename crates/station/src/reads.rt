@@ -4,7 +4,7 @@ ghost use mathlib.Core.List.{_++_};
 ghost use Prim.Native.Nat.{_≤_};
 ghost use lib.ListN.{length, drop};
 ghost use Rattle.area.specs.Held.{numbersFrom};
-ghost use Rattle.area.specs.Reads.{listAnswer, listed, Lists, freeAnswer};
+ghost use Rattle.area.specs.Reads.{listAnswer, listed, ListMeans, freeAnswer};
 ghost use Rattle.area.specs.Ready.{Room};
 use crate::check::check;
 use crate::layout;
@@ -24,12 +24,12 @@ fn write_numbers(area: &[u32], h: usize, numbers: &mut [u32])
 }
 
 // 5 and 14 in this order; else the numbers of the held circuits, each once, and how many they are. The words past
-// them keep theirs. Document 01 leaves the order open: the equation has that of the places, and `means` says what holds
-// in any order.
+// them keep theirs. Document 01 leaves the order open: the equation has that of the places, and `means` says of this answer
+// and this buffer what holds in any order.
 pub fn list(area: &[u32], numbers: &mut [u32]) -> Reading
     ensures answer { λ a. ⌜ a ≡ listAnswer (now (area .entry)) (length (now (numbers .entry))) ⌝ }
     ensures numbers { λ _. ⌜ now (numbers .exit) ≡ listed (now (area .entry)) (now (numbers .entry)) ⌝ }
-    ensures means { λ _. ⌜ Lists (now (area .entry)) ⌝ }
+    ensures means { λ a. ⌜ ListMeans (now (area .entry)) (now (numbers .entry)) a (now (numbers .exit)) ⌝ }
 {
     let c = check(area);
     if !c.formed {

@@ -1,9 +1,18 @@
-// Runs document 01's worked cases M1 to M11 through the calls themselves: load, quote, admission, release, listing and
-// free units. A line is what it is about and then problem, delay, cost and links; or 0 and the refusal's number. Work
-// memory starts as 77 in every word and is handed from one call to the next; the path buffer starts as 31 times 99, a
-// number that no link has, so that a link that was not written shows.
-ghost use Prim.Native.Nat.{_<_, _≤_};
+// Runs document 01's worked cases M1 to M11 through the calls themselves, and after them the calls that no case makes: a
+// quote on an area that nothing was loaded into, listing, free units, releases and a refused load. A line is what it is
+// about and then problem, delay, cost and links; or 0 and the refusal's number. What the line of a case is about are the
+// numbers of its row, with an equals sign behind them. Work memory starts as 77 in every word
+// and is handed from one call to the next; the path buffer starts as 31 times 99, a number that no link has, so that a
+// link that was not written shows.
+//
+// The contracts of `list` tie the lines of the cases to the list of the definition: `put_cases` ensures that its text is that
+// of document 01's replies to them. The text is written once.
+ghost use Prim.Native.Nat.{_≤_};
 ghost use lib.ListN.{length};
+
+mod list;
+
+use crate::list::put_cases;
 use area::Reading;
 use booking::calls;
 use booking::quote::quote;
@@ -11,28 +20,9 @@ use cases::NET_A;
 use cases::NET_B;
 use libc::STDOUT_FILENO;
 use network::Request;
-use rules::Answer;
+use rules::RequestAnswer;
 use station::load::load;
 use station::reads;
-
-// The quotes of the cases, in the order in which they are asked: case, target, units, delay bound, cost bound and
-// coefficient. In M9 source and target are one node.
-const QUOTES: [[u32; 6]; 14] = [
-    [1, 3, 1, 8, 20, 5],
-    [2, 3, 1, 8, 20, 6],
-    [3, 3, 1, 8, 20, 8],
-    [4, 3, 1, 8, 15, 8],
-    [5, 3, 1, 8, 14, 8],
-    [6, 3, 1, 9, 20, 8],
-    [7, 3, 10, 8, 20, 8],
-    [7, 3, 11, 8, 20, 8],
-    [8, 3, 6, 8, 20, 8],
-    [8, 3, 7, 8, 20, 8],
-    [8, 3, 7, 9, 20, 8],
-    [9, 0, 1, 8, 20, 8],
-    [10, 3, 1, 8, 20, 8],
-    [11, 3, 1, 2, 8, 4],
-];
 
 // Writes the first `end` bytes of a text.
 fn write_text(text: &[u8], end: usize)
@@ -41,9 +31,18 @@ fn write_text(text: &[u8], end: usize)
     io::write_all(STDOUT_FILENO, &text[..end]);
 }
 
-fn write_answer(answer: Answer, path: &[u32; 31]) {
+// The cases, on an area that nothing was loaded into.
+fn write_cases(work: &mut [u32; 16384]) {
+    let mut area: [u32; 3459] = [88; 3459];
+    let mut text: [u8; 8000] = [0; 8000];
+    let end = put_cases(&mut area, work, &mut text);
+    write_text(&text, end);
+}
+
+fn write_answer(name: &[u8], answer: RequestAnswer, path: &[u32; 31]) {
     let mut text = [0u8; 375];
     let end = answer_lines::put_answer(&mut text, 0, answer, path);
+    io::write_all(STDOUT_FILENO, name);
     write_text(&text, end);
 }
 
@@ -52,12 +51,6 @@ fn write_reading(name: &[u8], reading: Reading) {
     let end = answer_lines::put_reading(&mut text, 0, reading);
     io::write_all(STDOUT_FILENO, name);
     write_text(&text, end);
-}
-
-// What the line of a case is about: M and the case's number.
-fn write_case(case: u32) {
-    io::write_all(STDOUT_FILENO, b"M");
-    io::print_decimal(STDOUT_FILENO, case as u64);
 }
 
 // Loads a link table into the area.
@@ -77,60 +70,30 @@ fn load_b(n: u32, area: &mut [u32; 3459]) {
     load_net(n, &links, area);
 }
 
-// A request from node 0.
-fn request(target: u32, units: u32, delay: u32, cost: u32, coefficient: u32) -> Request {
+// As M3 asks, for some units.
+fn request(units: u32) -> Request {
     Request {
         source: 0,
-        target: target,
+        target: 3,
         units: units,
-        delay_bound: delay,
-        cost_bound: cost,
-        coefficient: coefficient,
-    }
-}
-
-fn write_quote(area: &[u32; 3459], work: &mut [u32; 16384], r: Request) {
-    let mut path: [u32; 31] = [99; 31];
-    let answer = quote(area, work, &mut path, r);
-    write_answer(answer, &path);
-}
-
-// Row `i` of the quotes.
-fn row_at(i: usize) -> [u32; 6]
-    requires { ⌜ i < 14 ⌝ }
-{
-    QUOTES[i]
-}
-
-fn quote_case(area: &[u32; 3459], work: &mut [u32; 16384], i: usize)
-    requires { ⌜ i < 14 ⌝ }
-{
-    let row = row_at(i);
-    write_case(row[0]);
-    write_quote(area, work, request(row[1], row[2], row[3], row[4], row[5]));
-}
-
-// The quotes from row `first` on, up to row `end`.
-fn quotes(area: &[u32; 3459], work: &mut [u32; 16384], first: usize, end: usize)
-    requires { ⌜ end ≤ 14 ⌝ }
-{
-    for i in first..end {
-        quote_case(area, work, i);
+        delay_bound: 8,
+        cost_bound: 20,
+        coefficient: 8,
     }
 }
 
 // A quote on an area that nothing was loaded into.
 fn blank(area: &[u32; 3459], work: &mut [u32; 16384]) {
-    io::write_all(STDOUT_FILENO, b"blank");
-    write_quote(area, work, request(3, 1, 8, 20, 8));
+    let mut path: [u32; 31] = [99; 31];
+    let answer = quote(area, work, &mut path, request(1));
+    write_answer(b"blank", answer, &path);
 }
 
 // The admission of M8 with circuit number 7.
 fn admit(area: &mut [u32; 3459], work: &mut [u32; 16384]) {
     let mut path: [u32; 31] = [99; 31];
-    let answer = calls::admit(area, work, &mut path, 7, request(3, 4, 8, 20, 8));
-    write_case(8);
-    write_answer(answer, &path);
+    let answer = calls::admit(area, work, &mut path, 7, request(4));
+    write_answer(b"admission", answer, &path);
 }
 
 // How many circuits are held. Answers the first one's number, or 0 where none is.
@@ -153,11 +116,12 @@ fn one_held(area: &[u32; 3459]) {
     free(area, 3);
 }
 
-// The release of circuit 7, which answers no path.
+// The release of circuit 7.
 fn release(area: &mut [u32; 3459]) {
-    let answer = calls::release(area, 7);
+    let mut text = [0u8; 23];
+    let end = answer_lines::put_release(&mut text, 0, calls::release(area, 7));
     io::write_all(STDOUT_FILENO, b"release");
-    write_answer(answer, &[99; 31]);
+    write_text(&text, end);
 }
 
 // Circuit 7 released, once and again, and what is then held and free.
@@ -169,35 +133,40 @@ fn releases(area: &mut [u32; 3459]) {
     free(area, 4);
 }
 
-// M1 to M7 by other bounds, coefficients and units; M8 with its quotes beside circuit 7; M9.
-fn on_net_a(area: &mut [u32; 3459], work: &mut [u32; 16384]) {
+// On net A.
+fn one_circuit(area: &mut [u32; 3459], work: &mut [u32; 16384]) {
     load_a(area);
-    quotes(area, work, 0, 8);
     admit(area, work);
-    quotes(area, work, 8, 11);
     one_held(area);
     releases(area);
-    quotes(area, work, 11, 12);
 }
 
-// M10.
-fn without_links(area: &mut [u32; 3459], work: &mut [u32; 16384]) {
+// What is free of each link of a loaded net: its capacity.
+fn capacities(area: &[u32; 3459]) {
+    free(area, 0);
+    free(area, 1);
+    free(area, 2);
+    free(area, 3);
+}
+
+// No links, net B with its capacities, and a load with too few nodes.
+fn loads(area: &mut [u32; 3459]) {
     load_net(4, &[], area);
-    quotes(area, work, 12, 13);
-}
-
-// M11, and a load with too few nodes.
-fn on_net_b(area: &mut [u32; 3459], work: &mut [u32; 16384]) {
     load_b(4, area);
-    quotes(area, work, 13, 14);
+    capacities(area);
     load_b(1, area);
 }
 
-fn main() {
+// The calls that no case makes.
+fn other_calls(work: &mut [u32; 16384]) {
     let mut area: [u32; 3459] = [88; 3459];
+    blank(&area, work);
+    one_circuit(&mut area, work);
+    loads(&mut area);
+}
+
+fn main() {
     let mut work: [u32; 16384] = [77; 16384];
-    blank(&area, &mut work);
-    on_net_a(&mut area, &mut work);
-    without_links(&mut area, &mut work);
-    on_net_b(&mut area, &mut work);
+    write_cases(&mut work);
+    other_calls(&mut work);
 }

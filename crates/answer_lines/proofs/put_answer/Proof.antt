@@ -18,15 +18,6 @@ enum-known-answer-2 c = search needs
 put-granted-requires : tie.Need-put-granted-requires
 put-granted-requires c κs = search needs
 
-enum-told : tie.Need-enum-told
-enum-told c = search needs
-
-slice-aggregate-put : tie.Need-slice-aggregate-put
-slice-aggregate-put c = search needs
-
-put-requires : tie.Need-put-requires
-put-requires c κs = search needs
-
 same-length : tie.Need-same-length
 same-length c = search needs
 
@@ -47,16 +38,6 @@ returns-2 c =
     let e = put .put-granted .ensures in
     rw (put .before .before .before .answer2 .given .1) e
 
-same-length-3 : tie.Need-same-length-3
-same-length-3 c = search needs
-
-returns-3 : tie.Need-returns-3
-unfolding answerText
-returns-3 c =
-    let put = c .before .before in
-    let e = put .put .ensures in
-    rw (put .before .before .before .enum-told .given .1) (e .0, (omega arith, e .1))
-
 pub put-answer-spec : {M : Type 1} → statement M
 put-answer-spec =
     tie.close
@@ -65,12 +46,7 @@ put-answer-spec =
     put-refused-requires
     enum-known-answer-2
     put-granted-requires
-    enum-told
-    slice-aggregate-put
-    put-requires
     same-length
     returns
     same-length-2
-    returns-2
-    same-length-3
-    returns-3)
+    returns-2)

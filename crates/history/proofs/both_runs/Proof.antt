@@ -1,7 +1,11 @@
--- `history::both_runs` meets its contract, by the theorem of the crate `ledger`.
+-- `history::both_runs` meets its contract, by the theorem of the crate `ledger`: the second run's text and bookings follow from
+-- the first one's.
 -- Assumes nothing.
+use mathlib.Core.Path.{ap, _∙_}
 use borrow.Author.Needs.{needs}
+use lib.Seq.{sets}
 use Rattle.call_list.proofs.Runs.{same-bookings}
+use Rattle.history.proofs.Unquoted.{text-again}
 use Rattle.history.proofs.both_runs.Statement.{statement}
 use Rattle.history.proofs.both_runs.Tie as tie
 
@@ -19,13 +23,20 @@ run-requires-2 c κs = search needs
 
 returns : tie.Need-returns
 returns c =
-    let first = c .before .before .before .before in
-    let a = first .before .before .args in (
-      first .run .ensures .1,
+    let first = c .before .before .before .before .before in
+    let a = first .before .before .before .args in
+    let one = first .run .ensures in
+    let two = c .run2 .ensures in (
+      one .1 .0,
       (
-        c .run2 .ensures .1,
-        same-bookings (a .first .now) (a .second .now) (first .run .last .1 .0) (c .run2 .last .1 .0)
-            (first .run .ensures .0) (c .run2 .ensures .0) (first .run .ensures .1) (c .run2 .ensures .1),
+        two .1 .0,
+        (
+          one .1 .1,
+          (
+            two .1 .1 ∙ ap (sets (a .again .now) 0) (text-again (a .first .now) (a .second .now) (one .0) (two .0)),
+            same-bookings (a .first .now) (a .second .now) (first .run .last .1 .0) (c .run2 .last .1 .0) (one .0) (two .0) (one .1 .0) (two .1 .0),
+          ),
+        ),
       ),
     )
 

@@ -5,8 +5,10 @@ use Prim.Native.Nat.{ℕ}
 use mathlib.Core.Path.{ap, _∙_}
 use mathlib.Core.List.{List}
 use borrow.Author.Needs.{needs}
+use lib.Seq.{sets}
 use Rattle.ledger.specs.History.{areaAtEnd}
 use Rattle.call_list.specs.Calls.{calls}
+use Rattle.history.specs.Lines.{runText}
 use Rattle.history.proofs.run.Statement.{statement}
 use Rattle.history.proofs.run.Tie as tie
 
@@ -16,6 +18,9 @@ load-net-requires c κs = search needs
 every-call-requires : tie.Need-every-call-requires
 every-call-requires c κs = search needs
 
+write-text-requires : tie.Need-write-text-requires
+write-text-requires c κs = search needs
+
 circuits-held-requires : tie.Need-circuits-held-requires
 circuits-held-requires c κs = search needs
 
@@ -24,11 +29,15 @@ every-free-requires c κs = search needs
 
 returns : tie.Need-returns
 returns c =
-    let called = c .before .before .before .before in
-    let loaded = called .before .before in (
+    let called = c .before .before .before .before .before .before .before in
+    let loaded = called .before .before .before in
+    let a = loaded .before .before .args in
+    let area = loaded .load-net .ensures .1 in (
       loaded .load-net .ensures .0,
-      called .every-call .ensures
-          ∙ ap (λ (w : List ℕ). areaAtEnd w (calls (loaded .before .before .args .struck))) (loaded .load-net .ensures .1),
+      (
+        called .every-call .ensures .0 ∙ ap (λ (w : List ℕ). areaAtEnd w (calls (a .struck))) area,
+        called .every-call .ensures .1 .1 ∙ ap (λ (w : List ℕ). sets (a .text .now) 0 (runText (a .struck) w)) area,
+      ),
     )
 
 pub run-spec : {M : Type 1} → statement M
@@ -37,6 +46,7 @@ run-spec =
     (tie.spec
     load-net-requires
     every-call-requires
+    write-text-requires
     circuits-held-requires
     every-free-requires
     returns)

@@ -10,7 +10,7 @@ use borrow.Author.Tests.{le-leb}
 use Rattle.network.specs.Net.{Net}
 use Rattle.network.specs.Problem.{Problem}
 use Rattle.network.proofs.Tests.{by-lt}
-use Rattle.search.specs.Alike.{Alike}
+use Rattle.search.specs.Result.{Alike}
 use Rattle.search.specs.declared.Trail.{Trail}
 use Rattle.search.specs.ebf.Table.{cell, cells, linkAt, initialised, relaxed, offered, column, round, roundCount, rounds, ebf}
 use Rattle.search.specs.ebf.Trace.{trailBack, stepBack, traced}

@@ -27,7 +27,8 @@ use Rattle.network.specs.Words.{Links}
 use Rattle.search.specs.Solver.{Sound, netIn, problemOf, unflagged, scaledOnly}
 use Rattle.search.specs.ebf.OnTable.{Bounded}
 use Rattle.search.specs.Forward.{forwarded}
-use Rattle.search.specs.Answers.{answerOf, grantOf, pathAfter}
+use Rattle.search.specs.Forward.{grantOf}
+use Rattle.search.specs.Result.{answerOf, pathAfter}
 use Rattle.search.specs.ebf.Passed.{passed}
 use Rattle.search.proofs.ebf.Rows.{cells-below}
 use Rattle.search.proofs.ebf.Unflagged.{traced-unflagged}

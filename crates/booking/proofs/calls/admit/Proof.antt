@@ -12,8 +12,9 @@ use lib.ListN.{length}
 use Rattle.area.proofs.ReadCases.{formed-long}
 use Rattle.area.proofs.CircuitCases.{part-length}
 use Rattle.network.specs.declared.Request.{Request}
-use Rattle.rules.specs.Calls.{booksIn, sought, admission}
-use Rattle.rules.proofs.Answer.{the-type}
+use Rattle.rules.specs.Calls.{sought, admission}
+use Rattle.rules.specs.Meaning.{booksIn}
+use Rattle.rules.proofs.RequestAnswer.{the-type}
 use Rattle.rules.proofs.CallCases.{Passed, all-passed, admission-refused, fails-11, fails-12, searches}
 use Rattle.rules.proofs.Granting.{stored-as, unstored, other-case, granted-short, admitted-as, refusal-admitted}
 use Rattle.booking.proofs.calls.admit.Statement.{statement}
@@ -118,6 +119,9 @@ seek-requires c κs =
 enum-known-answer : tie.Need-enum-known-answer
 enum-known-answer c = search needs
 
+enum-told : tie.Need-enum-told
+enum-told c = search needs
+
 same-length-4 : tie.Need-same-length-4
 same-length-4 c = search needs
 
@@ -129,13 +133,13 @@ same-length-6 c = search needs
 
 returns-4 : tie.Need-returns-4
 returns-4 c =
-    let answered = c .before .before .before .before .before in
+    let answered = c .before .before .before .before .before .before in
     let counted = answered .before .before .before .before .before .before in
     let passed = passedAt counted in
     let w = areaAt passed in
     let r = requestAt passed in
     let found = answered .seek .ensures in
-    let other = other-case (tagOf the-type) (λ g. refl) _ (c .match .keys2) in
+    let other = other-case (tagOf the-type) (λ g. refl) _ (c .before .match .keys2) in
     admitted-as w (workAt passed) (bufferAt passed) (circuitAt passed) r (sought (booksIn w) r) (past-twelve counted) _ (found .0) _ (found .1) w
     (unstored w (circuitAt passed) (r .units) (sought (booksIn w) r) (λ g e. other g (found .0 ∙ e)))
 
@@ -206,6 +210,7 @@ admit-spec =
     returns-3
     seek-requires
     enum-known-answer
+    enum-told
     same-length-4
     same-length-5
     same-length-6

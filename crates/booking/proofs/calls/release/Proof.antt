@@ -10,42 +10,35 @@ use borrow.Author.Needs.{needs}
 use borrow.Author.Tests.{not-true, not-false}
 use Rattle.area.specs.Held.{foundAt}
 use Rattle.area.specs.Formed.{wellFormed}
+use Rattle.area.specs.Refusals.{refuses}
 use Rattle.area.specs.Moves.{removed}
 use Rattle.area.proofs.ReadCases.{formed-long, formed-held}
-use Rattle.rules.specs.declared.Answer.{Answer}
-use Rattle.rules.specs.declared.Answer.the-variants.{Refused, Released}
-use Rattle.rules.specs.Replies.{Reply, refuses, releases, answerOf}
-use Rattle.rules.specs.Calls.{release, cleared}
-use Rattle.rules.specs.Meaning.{Cleared}
-use Rattle.rules.proofs.Meaning.{release-means}
+use Rattle.rules.specs.declared.ReleaseAnswer.the-variants.{Refused, Released}
+use Rattle.rules.specs.Replies.{releases, releaseAnswerOf}
+use Rattle.rules.specs.Calls.{cleared}
 use Rattle.rules.proofs.CallCases.{release-unfit, release-unheld, release-held}
+use Rattle.rules.proofs.Granting.{ClearedAs, cleared-as}
 use Rattle.booking.proofs.calls.release.Statement.{statement}
 use Rattle.booking.proofs.calls.release.Tie as tie
 
--- the answer x, the area w' after and the meaning at each return: number k was found at place j of h
+-- the answer, the area w' after and the meaning at each return: number k was found at place j of h
 module _ (w : List ℕ) (k : ℕ) where
-  abbrev Done : Answer → List ℕ → Type 0
-  Done x w' = (x ≡ answerOf (release w k)) × ((w' ≡ cleared w k (release w k)) × Cleared w k (release w k))
-
-  done : (a : Reply) → a ≡ release w k → (x : Answer) → x ≡ answerOf a → (w' : List ℕ) → w' ≡ cleared w k a → Done x w'
-  done a is x answers w' stored = (answers ∙ ap answerOf is, (stored ∙ ap (cleared w k) is, release-means w k))
-
-  unfit : wellFormed w ≡ false → Done (Refused 5) w
-  unfolding answerOf cleared
-  unfit e = done (refuses 5) (release-unfit w k e) (Refused 5) refl w refl
+  unfit : wellFormed w ≡ false → ClearedAs w k (Refused 5) w
+  unfolding releaseAnswerOf cleared
+  unfit e = cleared-as w k (refuses 5) (release-unfit w k e) (Refused 5) refl w refl
 
   module _ (formed : wellFormed w ≡ true) (h j : ℕ) (count : h ≡ getD w 2 0) (found : j ≡ foundAt w h k) where
     found-is : j ≡ foundAt w (getD w 2 0) k
     found-is = found ∙ ap (λ (n : ℕ). foundAt w n k) count
 
-    unheld : h ≤ j → Done (Refused 13) w
-    unfolding answerOf cleared
-    unheld high = done (refuses 13) (release-unheld w k formed (omega (arith, found-is))) (Refused 13) refl w refl
+    unheld : h ≤ j → ClearedAs w k (Refused 13) w
+    unfolding releaseAnswerOf cleared
+    unheld high = cleared-as w k (refuses 13) (release-unheld w k formed (omega (arith, found-is))) (Refused 13) refl w refl
 
-    held : (w' : List ℕ) → j < h → w' ≡ removed w j → Done Released w'
-    unfolding answerOf cleared
+    held : (w' : List ℕ) → j < h → w' ≡ removed w j → ClearedAs w k Released w'
+    unfolding releaseAnswerOf cleared
     held w' low stored =
-        done releases (release-held w k formed (omega (arith, found-is))) Released refl w' (stored ∙ ap (removed w) found-is)
+        cleared-as w k releases (release-held w k formed (omega (arith, found-is))) Released refl w' (stored ∙ ap (removed w) found-is)
 
 check-requires : tie.Need-check-requires
 check-requires c κs = search needs

@@ -5,7 +5,8 @@ use mathlib.Core.Path.{sym, _∙_}
 use mathlib.Core.List.{List}
 use borrow.Author.Needs.{needs}
 use lib.ListN.{length}
-use Rattle.rules.specs.Calls.{booksIn, sought}
+use Rattle.rules.specs.Calls.{sought}
+use Rattle.rules.specs.Meaning.{booksIn}
 use Rattle.rules.proofs.CallCases.{Passed, all-passed, quote-refused, quote-passed}
 use Rattle.rules.proofs.Granting.{quoted-as, refusal-quoted}
 use Rattle.booking.proofs.quote.quote.Statement.{statement}

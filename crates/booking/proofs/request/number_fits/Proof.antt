@@ -12,7 +12,8 @@ use borrow.Author.Tests.{not-true, not-false}
 use Rattle.area.specs.Held.{foundAt}
 use Rattle.area.specs.Formed.{inRange}
 use Rattle.area.proofs.ReadCases.{formed-long, formed-held}
-use Rattle.rules.specs.Calls.{booksIn, numberFits}
+use Rattle.rules.specs.Calls.{numberFits}
+use Rattle.rules.specs.Meaning.{booksIn}
 use Rattle.rules.proofs.CallCases.{number-out, number-left}
 use Rattle.booking.proofs.request.number_fits.Statement.{statement}
 use Rattle.booking.proofs.request.number_fits.Tie as tie

@@ -4,7 +4,7 @@ use mathlib.Core.Path.{ap, _∙_}
 use native.Mathlib.Omega.{arith}
 use borrow.Author.Needs.{needs}
 use Rattle.area.proofs.ReadCases.{formed-long, formed-links}
-use Rattle.rules.specs.Replies.{Reply, told, answerOf, pathAfter}
+use Rattle.rules.specs.Replies.{PathReply, told, answerOf, pathAfter}
 use Rattle.rules.proofs.Seeking.{search-ready, reply-is}
 use Rattle.rules.proofs.Granting.{told-reply, path-reply}
 use Rattle.booking.proofs.seek.seek.Statement.{statement}
@@ -80,7 +80,7 @@ returns c =
     (flagged .usable .ensures) _ _ _ (numbered .wide .ensures) (counted .wide2 .ensures) (lent .part .ensures) in
     let found = searched .search .ensures in (
       c .numbered .ensures ∙ ap told (found .0) ∙ told-reply _ _ ∙ ap answerOf is,
-      found .1 ∙ path-reply _ _ l ∙ ap (λ (a : Reply). pathAfter a l) is,
+      found .1 ∙ path-reply _ _ l ∙ ap (λ (a : PathReply). pathAfter a l) is,
     )
 
 pub seek-spec : {M : Type 1} → statement M

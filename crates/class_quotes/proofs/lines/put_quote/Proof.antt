@@ -6,7 +6,7 @@ use borrow.Author.Needs.{needs}
 use lib.Seq.{length-take-le}
 use lib.ListN.{length}
 use Rattle.class_format.proofs.LineBytes.{put-as}
-use Rattle.class_format.proofs.Quoted.{line-of-quote, reply-refused, reply-granted, never-released}
+use Rattle.class_format.proofs.Quoted.{line-of-quote, reply-refused, reply-granted}
 use Rattle.class_quotes.proofs.lines.put_quote.Statement.{statement}
 use Rattle.class_quotes.proofs.lines.put_quote.Tie as tie
 
@@ -45,9 +45,6 @@ put-granted-requires : tie.Need-put-granted-requires
 put-granted-requires c κs =
     (search needs, omega (arith, slice-aggregate-put-granted c, array-share-prefix-path (c .before)))
 
-enum-told : tie.Need-enum-told
-enum-told c = search needs
-
 returns : tie.Need-returns
 returns c =
     let told = c .before .before .before in
@@ -72,12 +69,6 @@ returns-2 c =
     ∙ reply-granted (a .class) _ _ _ _ (c .before .before .before .wide .ensures) _ (sym (told .a2 .given .1) ∙ quoted .quote .ensures .0) (quoted .quote .ensures .1 .0) .1)
     (c .put-granted .ensures)
 
-returns-3 : tie.Need-returns-3
-returns-3 c =
-    let quoted = c .before .before .before in
-    let a = quoted .before .before .before .before .before .args in
-    absurd (never-released (a .area .now) _ _ _ (sym (c .enum-told .given .1) ∙ quoted .quote .ensures .0))
-
 pub put-quote-spec : {M : Type 1} → statement M
 put-quote-spec =
     tie.close
@@ -92,7 +83,5 @@ put-quote-spec =
     array-share-prefix-path
     slice-aggregate-put-granted
     put-granted-requires
-    enum-told
     returns
-    returns-2
-    returns-3)
+    returns-2)

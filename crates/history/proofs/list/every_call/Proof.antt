@@ -1,24 +1,32 @@
--- `history::list::every_call` meets its contract. What the calls that are left do to the area at hand is what the
--- whole list does to the first one.
+-- `history::list::every_call` meets its contract. What the calls that are left do to the area at hand is what the whole list
+-- does to the first one, and the lines that are still to put, put from here, come to the whole text. 25 lines of at most 400
+-- bytes fit.
 -- Assumes nothing.
-use Prim.Native.Nat.{_-_, _≤_}
+use Prim.Native.Nat.{_*_, _-_, _≤_}
 use mathlib.Core.Path.{_≡_, refl}
+use native.Mathlib.Omega.{arith}
 use borrow.Author.Needs.{needs}
+use lib.ListN.{length}
+use lib.Seq.{sets}
 use Rattle.ledger.specs.History.{areaAtEnd}
+use Rattle.text_format.proofs.Puts.{Left}
 use Rattle.call_list.specs.Calls.{callsFrom, calls}
 use Rattle.call_list.proofs.CallCases.{fewer, none-left}
+use Rattle.history.specs.Lines.{textFrom, runText}
+use Rattle.history.proofs.LineBytes.{text-none, text-turn, text-end}
 use Rattle.history.proofs.list.every_call.Statement.{statement}
 use Rattle.history.proofs.list.every_call.Tie as tie
 
 abbrev Inv-loop : tie.InvT-loop
-Inv-loop struck area₀ k₀ area k = (areaAtEnd area (callsFrom struck k (25 - k)) ≡ areaAtEnd area₀ (calls struck)) × (k ≤ 25)
+Inv-loop struck area₀ text₀ at₀ k₀ area text at k =
+    (areaAtEnd area (callsFrom struck k (25 - k)) ≡ areaAtEnd area₀ (calls struck)) × Left text at (textFrom struck area k (25 - k)) (sets text₀ 0 (runText struck area₀)) (length (runText struck area₀)) × (at ≤ 400 * k) × (at ≤ length text) × (k ≤ 25)
 
 abbrev μ-loop : tie.MeasureT-loop
-μ-loop struck area₀ k₀ area k = 25 - k
+μ-loop struck area₀ text₀ at₀ k₀ area text at k = 25 - k
 
 loop-holds : tie.Need-loop-holds Inv-loop μ-loop
 unfolding calls
-loop-holds c = (refl, search needs)
+loop-holds c = (refl, text-none (c .args .struck) (c .args .area .now) (c .args .text .now), search needs, search needs, search needs)
 
 unless-struck-requires : tie.Need-unless-struck-requires Inv-loop μ-loop
 unless-struck-requires c κs = search needs
@@ -31,12 +39,23 @@ loop-less c = search needs
 
 loop-again : tie.Need-loop-again Inv-loop μ-loop
 loop-again c =
-    let turn = c .before .before .before in
-    let a = turn .before .args in
-    (fewer (a .struck) (turn .loop .k) (turn .loop .area) (c .unless-struck .last .1 .0) _ (search needs) (turn .loop .inv .0) (c .unless-struck .ensures), search needs)
+    let turn = c .before .before .before .before in
+    let l = turn .loop in
+    let struck = turn .before .args .struck in
+    let made = c .unless-struck .ensures in (
+      fewer struck l.k l.area (c .unless-struck .last .1 .0) _ (omega arith) (l.inv .0) (made .0),
+      text-turn struck l.k l.area _ l.text _ _ l.at _ _ (omega arith) (made .0) (made .1) (l.inv .1),
+      search needs,
+      search needs,
+      search needs,
+    )
 
 returns : tie.Need-returns Inv-loop μ-loop
-returns c = none-left (c .before .before .args .struck) (c .before .loop .k) (c .before .loop .area) _ (search needs) (c .before .loop .inv .0)
+returns c =
+    let l = c .before .loop in
+    let struck = c .before .before .args .struck in
+    let e = text-end struck l.k l.area l.text _ l.at _ (omega arith) (l.inv .1) in
+    (none-left struck l.k l.area _ (omega arith) (l.inv .0), ((e .0, omega arith), e .1))
 
 pub every-call-spec : {M : Type 1} → statement M
 every-call-spec =

@@ -1,8 +1,9 @@
--- `history::list::unless_struck` meets its contract: it passes over a row just where the list does.
+-- `history::list::unless_struck` meets its contract: it passes over a row just where the list does, and puts nothing there.
 -- Assumes nothing.
 use mathlib.Core.Path.{sym, _∙_}
 use borrow.Author.Needs.{needs}
 use Rattle.call_list.proofs.CallCases.{skipped, called}
+use Rattle.history.proofs.LineBytes.{put-as, nothing-put, row-skipped, row-called}
 use Rattle.history.proofs.list.unless_struck.Statement.{statement}
 use Rattle.history.proofs.list.unless_struck.Tie as tie
 
@@ -20,18 +21,25 @@ returns c =
     let tested = c .before in
     let read = tested .before in
     let a = read .before .args in
-    skipped (a .struck) (a .k) (read .row-at .result) (read .row-at .ensures) (a .area .now) (sym (tested .is-struck .ensures) ∙ c .if1 .taken)
+    let passed = sym (tested .is-struck .ensures) ∙ c .if1 .taken in (
+      skipped (a .struck) (a .k) (read .row-at .result) (read .row-at .ensures) (a .area .now) passed,
+      nothing-put 400 (a .text .now) _ (a .at) (row-skipped (a .struck) (a .k) (read .row-at .result) (read .row-at .ensures) (a .area .now) passed) (search needs),
+    )
 
-lend-and-call-requires : tie.Need-lend-and-call-requires
-lend-and-call-requires c κs = search needs
+put-row-requires : tie.Need-put-row-requires
+put-row-requires c κs = search needs
 
 returns-2 : tie.Need-returns-2
 returns-2 c =
-    let tested = c .before .before .before in
+    let branch = c .before .before .before in
+    let tested = branch .before in
     let read = tested .before in
     let a = read .before .args in
-    called (a .struck) (a .k) (read .row-at .result) (read .row-at .ensures) (a .area .now) (c .lend-and-call .last .1 .0)
-    (sym (tested .is-struck .ensures) ∙ c .before .before .if1 .left) (c .lend-and-call .ensures)
+    let kept = sym (tested .is-struck .ensures) ∙ branch .if1 .left in (
+      called (a .struck) (a .k) (read .row-at .result) (read .row-at .ensures) (a .area .now) (c .put-row .last .1 .0) kept (c .put-row .ensures .0),
+      put-as 400 (a .text .now) _ _ _ (a .at) _ (row-called (a .struck) (a .k) (read .row-at .result) (read .row-at .ensures) (a .area .now) kept)
+          (c .put-row .ensures .1),
+    )
 
 pub unless-struck-spec : {M : Type 1} → statement M
 unless-struck-spec =
@@ -41,5 +49,5 @@ unless-struck-spec =
     array-read-is-struck
     is-struck-requires
     returns
-    lend-and-call-requires
+    put-row-requires
     returns-2)

@@ -1,5 +1,6 @@
 -- `line::booking_calls::line_admit` meets its contract: the code and the words are those of the answer that the call
--- ensures, and the rest is what it ensures itself, for the request that was made of the numbers.
+-- ensures, and so tell an answer that means what it ensures; the rest is what it ensures itself, for the request that was
+-- made of the numbers.
 -- Assumes nothing.
 use mathlib.Core.Path.{_≡_, ap, subst, _∙_}
 use mathlib.Core.List.{List}
@@ -7,11 +8,11 @@ use Prim.Native.Nat.{ℕ}
 use borrow.Author.Needs.{needs}
 use lib.ListN.{length}
 use Rattle.network.specs.declared.Request.{Request}
-use Rattle.rules.specs.declared.Answer.{Answer}
+use Rattle.rules.specs.declared.RequestAnswer.{RequestAnswer}
 use Rattle.rules.specs.Replies.{answerOf, pathAfter}
 use Rattle.rules.specs.Calls.{admission, booked}
-use Rattle.rules.specs.Meaning.{Admitted}
 use Rattle.line.specs.Codes.{answerCode, grantWords}
+use Rattle.line.specs.Meaning.{AdmissionTells}
 use Rattle.line.proofs.booking_calls.line_admit.Statement.{statement}
 use Rattle.line.proofs.booking_calls.line_admit.Tie as tie
 
@@ -22,7 +23,7 @@ Ensured w work l c a k a' l' w' r =
     × ((a' ≡ grantWords (answerOf (admission w work (length l) c r)) a)
     × ((l' ≡ pathAfter (admission w work (length l) c r) l)
     × ((w' ≡ booked w c (r .units) (admission w work (length l) c r))
-    × Admitted w work (length l) c r (admission w work (length l) c r))))
+    × AdmissionTells w work l a c r k l' a' w')))
 
 request-requires : tie.Need-request-requires
 request-requires c κs = search needs
@@ -48,9 +49,11 @@ returns c =
     let asking = called .before .before .before .before in
     let a = asking .before .before .before .before .args in
     let said = called .admit .ensures in
-    let coded = c .tell .ensures .0 ∙ ap answerCode (said .0) in
-    let written = c .tell .ensures .1 ∙ ap (λ (x : Answer). grantWords x (a .answer .now)) (said .0) in
-    subst (Ensured (a .area .now) (length (a .work .now)) (a .path .now) (a .circuit) (a .answer .now) _ _ _ _) (asking .request .ensures) (coded, (written, said .1))
+    let told = c .tell .ensures in
+    let coded = told .0 ∙ ap answerCode (said .0) in
+    let written = told .1 ∙ ap (λ (x : RequestAnswer). grantWords x (a .answer .now)) (said .0) in
+    subst (Ensured (a .area .now) (length (a .work .now)) (a .path .now) (a .circuit) (a .answer .now) _ _ _ _) (asking .request .ensures)
+    (coded, (written, (said .1 .0, (said .1 .1 .0, record { answer = called .admit .result; means = said .1 .1 .1; code = told .0; words = told .1 }))))
 
 pub line-admit-spec : {M : Type 1} → statement M
 line-admit-spec =

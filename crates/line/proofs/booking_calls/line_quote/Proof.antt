@@ -1,5 +1,6 @@
 -- `line::booking_calls::line_quote` meets its contract: the code and the words are those of the answer that the call
--- ensures, and the rest is what it ensures itself, for the request that was made of the numbers.
+-- ensures, and so tell an answer that means what it ensures; the rest is what it ensures itself, for the request that was
+-- made of the numbers.
 -- Assumes nothing.
 use mathlib.Core.Path.{_≡_, ap, subst, _∙_}
 use mathlib.Core.List.{List}
@@ -7,11 +8,11 @@ use Prim.Native.Nat.{ℕ}
 use borrow.Author.Needs.{needs}
 use lib.ListN.{length}
 use Rattle.network.specs.declared.Request.{Request}
-use Rattle.rules.specs.declared.Answer.{Answer}
+use Rattle.rules.specs.declared.RequestAnswer.{RequestAnswer}
 use Rattle.rules.specs.Replies.{answerOf, pathAfter}
 use Rattle.rules.specs.Calls.{quote}
-use Rattle.rules.specs.Meaning.{Quoted}
 use Rattle.line.specs.Codes.{answerCode, grantWords}
+use Rattle.line.specs.Meaning.{QuoteTells}
 use Rattle.line.proofs.booking_calls.line_quote.Statement.{statement}
 use Rattle.line.proofs.booking_calls.line_quote.Tie as tie
 
@@ -20,7 +21,7 @@ abbrev Ensured : List ℕ → ℕ → List ℕ → List ℕ → ℕ → List ℕ
 Ensured w work l a k a' l' r =
     (k ≡ answerCode (answerOf (quote w work (length l) r)))
     × ((a' ≡ grantWords (answerOf (quote w work (length l) r)) a)
-    × ((l' ≡ pathAfter (quote w work (length l) r) l) × Quoted w work (length l) r (quote w work (length l) r)))
+    × ((l' ≡ pathAfter (quote w work (length l) r) l) × QuoteTells w work l a r k l' a'))
 
 request-requires : tie.Need-request-requires
 request-requires c κs = search needs
@@ -43,9 +44,11 @@ returns c =
     let asking = called .before .before .before in
     let a = asking .before .before .before .before .args in
     let said = called .quote .ensures in
-    let coded = c .tell .ensures .0 ∙ ap answerCode (said .0) in
-    let written = c .tell .ensures .1 ∙ ap (λ (x : Answer). grantWords x (a .answer .now)) (said .0) in
-    subst (Ensured (a .area .now) (length (a .work .now)) (a .path .now) (a .answer .now) _ _ _) (asking .request .ensures) (coded, (written, said .1))
+    let told = c .tell .ensures in
+    let coded = told .0 ∙ ap answerCode (said .0) in
+    let written = told .1 ∙ ap (λ (x : RequestAnswer). grantWords x (a .answer .now)) (said .0) in
+    subst (Ensured (a .area .now) (length (a .work .now)) (a .path .now) (a .answer .now) _ _ _) (asking .request .ensures)
+    (coded, (written, (said .1 .0, record { answer = called .quote .result; means = said .1 .1; code = told .0; words = told .1 })))
 
 pub line-quote-spec : {M : Type 1} → statement M
 line-quote-spec =

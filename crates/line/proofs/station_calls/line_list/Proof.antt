@@ -1,5 +1,5 @@
 -- `line::station_calls::line_list` meets its contract: the code and the word are those of the answer that the call
--- ensures, and the rest is what it ensures itself.
+-- ensures, and so tell an answer that means what it ensures; the list is as it ensures itself.
 -- Assumes nothing.
 use mathlib.Core.Path.{ap, _∙_}
 use borrow.Author.Needs.{needs}
@@ -22,9 +22,10 @@ returns c =
     let called = c .before .before .before .before in
     let answer = called .before .before .before .before .args .answer .now in
     let said = called .list .ensures in
-    let coded = c .tell .ensures .0 ∙ ap readingCode (said .0) in
-    let written = c .tell .ensures .1 ∙ ap (λ (a : Reading). valueWord a answer) (said .0) in
-    (coded, (written, said .1))
+    let told = c .tell .ensures in
+    let coded = told .0 ∙ ap readingCode (said .0) in
+    let written = told .1 ∙ ap (λ (a : Reading). valueWord a answer) (said .0) in
+    (coded, (written, (said .1 .0, record { answer = called .list .result; means = said .1 .1; code = told .0; words = told .1 })))
 
 pub line-list-spec : {M : Type 1} → statement M
 line-list-spec = tie.close (tie.spec list-requires tell-requires same-length returns)

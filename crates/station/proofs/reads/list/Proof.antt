@@ -8,7 +8,7 @@ use borrow.Author.Needs.{needs}
 use borrow.Author.Tests.{not-true, not-false}
 use lib.ListN.{drop}
 use Rattle.area.specs.Held.{numbersFrom}
-use Rattle.area.proofs.ReadCases.{formed-long, formed-held, list-unfit, list-short, list-all, lists}
+use Rattle.area.proofs.ReadCases.{formed-long, formed-held, list-unfit, list-short, list-all}
 use Rattle.station.proofs.reads.list.Statement.{statement}
 use Rattle.station.proofs.reads.list.Tie as tie
 
@@ -58,9 +58,8 @@ returns-3 c =
     let w = start .args .area .now in
     let l = start .args .numbers .now in
     let formed = sym (at .before .before .check .ensures .0) ∙ not-false _ (at .if1 .left) in
-    let told = list-all w l formed (omega arith) in
     let same = ap (λ (h : ℕ). numbersFrom w 0 h ++ drop h l) (c .before .before .before .before .before .before .wide .ensures) in
-    (told .0, (c .before .before .before .write-numbers .ensures ∙ same ∙ told .1, lists w))
+    list-all w l formed (omega arith) _ (c .before .before .before .write-numbers .ensures ∙ same)
 
 pub list-spec : {M : Type 1} → statement M
 list-spec =

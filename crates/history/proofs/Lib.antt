@@ -1,0 +1,2 @@
+mod LineBytes
+mod Unquoted
