@@ -70,8 +70,8 @@ fn put_granted(text: &mut [u8], at: usize, g: Grant, path: &[u32]) -> usize
     put_path(text, end, path, g.links)
 }
 
-// What a quote or an admission answered, with the words of its path buffer. The programs lend a text of 375 bytes and a
-// path buffer of at most 31 words.
+// What a quote or an admission answered, with the words of its path buffer. `history` and `worked_cases` lend a path buffer
+// of at most 31 words, for which 375 bytes are enough, and leave as many behind the place.
 pub fn put_answer(text: &mut [u8], at: usize, answer: RequestAnswer, path: &[u32]) -> usize
     requires { ⌜ at + 11 * length (now path) + 34 ≤ length (now text) ⌝ }
     ensures end { λ r. ⌜ r ≡ at + length (answerText answer (now (path .entry))) ⌝ }

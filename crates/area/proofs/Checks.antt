@@ -2,16 +2,16 @@
 -- one of them; and checks that test rules refuse as the rules do, by the first that applies.
 -- Assumes nothing.
 use Prim.Native.Nat.{ℕ, zero, suc, _≤_, _<_}
-use mathlib.Core.Path.{_≡_, refl, sym, ap, _∙_}
+use mathlib.Core.Path.{_≡_, refl, sym, _∙_}
 use mathlib.Core.Bool.{Bool, true, false, _&&_, true≢false}
-use mathlib.Core.List.{List, [], _∷_, _++_, map}
+use mathlib.Core.List.{List, [], _∷_, _++_}
 use mathlib.Core.Logic.{inl, inr}
 use native.Mathlib.Omega.{arith}
 use lib.Dec.{ltb, leb}
 use borrow.Author.Tests.{leb-true, leb-false, ltb-true, ltb-false}
-use Rattle.network.specs.Lists.{All, memb}
+use Rattle.network.specs.Lists.{All}
 use Rattle.network.proofs.Tests.{by-bool, fst-of, snd-of}
-use Rattle.area.specs.Refusals.{Rule, _when_, FirstApplies, Passes, Reply, refuses, grants, Answered}
+use Rattle.area.specs.Refusals.{Rule, _when_, Passes, Reply, refuses, grants, Answered}
 use Rattle.area.specs.Checks.{Check, _unless_, firstFailing, unlessRefused, checked}
 
 -- ---- the first that fails

@@ -18,7 +18,7 @@ map-at f [] i a b low = absurd (omega arith)
 map-at f (x ∷ l) zero a b low = refl
 map-at f (x ∷ l) (suc i) a b low = map-at f l i a b (omega arith)
 
-many : length cases ≡ 15
+pub many : length cases ≡ 15
 unfolding cases
 many = refl
 

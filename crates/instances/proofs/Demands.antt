@@ -3,14 +3,14 @@
 -- less would not give it.
 -- Assumes nothing.
 use Prim.Native.Nat.{ℕ, _≤_}
-use mathlib.Core.Path.{_≡_, refl, sym, ap, ap₂, _∙_, subst}
+use mathlib.Core.Path.{_≡_, refl, ap, ap₂, _∙_, subst}
 use mathlib.Core.Bool.{true, false}
 use mathlib.Core.List.{List, [], _∷_, _++_}
 use mathlib.Core.Logic.{_⊎_, inl, inr, _↔_}
 use lib.ListN.{length}
 use Rattle.network.specs.Lists.{Distinct, memb}
 use Rattle.network.specs.Net.{Net, Walk, IsPath, nodesOf, sum}
-use Rattle.network.specs.Problem.{Solves, NoSolution, Distance, Best}
+use Rattle.network.specs.Problem.{NoSolution, Distance, Best}
 use Rattle.network.specs.Reduce.{delayBound, costBound, one, two, Enough}
 use Rattle.network.specs.declared.Request.{Request}
 use Rattle.network.specs.declared.Grant.{Grant as Numbers}
@@ -24,7 +24,6 @@ use Rattle.area.specs.declared.Loading.the-variants as loading
 use Rattle.area.specs.declared.Reading.the-variants as reading
 use Rattle.area.specs.Load.{loadAnswer, areaLoaded}
 use Rattle.area.specs.Reads.{listAnswer, listed, freeAnswer}
-use Rattle.rules.specs.declared.RequestAnswer.{RequestAnswer}
 use Rattle.rules.specs.declared.RequestAnswer.the-variants as request
 use Rattle.rules.specs.declared.ReleaseAnswer.the-variants as release
 use Rattle.rules.specs.declared.Service.{Service}
@@ -37,7 +36,7 @@ use Rattle.link_format.specs.declared.Size.{Size}
 use Rattle.link_format.specs.declared.Reading.the-variants as file
 use Rattle.link_format.specs.Reading.{readAnswer, tableRead}
 use Rattle.ledger.specs.Entries.{quoting, admitting, releasing, told, Ledger, opened, moved}
-use Rattle.ledger.specs.History.{Lending, measured, Given, of-request, of-release, releaseGiven, answers, areaAtEnd, bookings, strike, keep, end}
+use Rattle.ledger.specs.History.{Lending, Given, of-request, of-release, releaseGiven, answers, areaAtEnd, bookings, strike, keep, end}
 use Rattle.ledger.specs.Sentences.{Solvable}
 use Rattle.ledger.specs.Demand.{FirstDemand, GrantedPath, SecondDemand, ThirdDemand}
 

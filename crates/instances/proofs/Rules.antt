@@ -14,7 +14,7 @@ use Rattle.search.specs.Result.{GrantedByOne, GrantedByTwo}
 use Rattle.area.specs.Station.{station, tableIn, circuitOf}
 use Rattle.area.specs.Books.{books}
 use Rattle.rules.specs.Requests.{RequestFits, requestFits}
-use Rattle.area.specs.Refusals.{Passes, refuses, grants}
+use Rattle.area.specs.Refusals.{Passes, refuses}
 use Rattle.rules.specs.Replies.{PathGrant}
 use Rattle.rules.specs.Allowed.{NumberFits}
 use Rattle.rules.specs.Calls.{numberFits}

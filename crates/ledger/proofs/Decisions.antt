@@ -12,7 +12,6 @@ use lib.Dec.{eqb, leb}
 use lib.ListN.{length}
 use borrow.Author.Tests.{eq-eqb}
 use Rattle.network.specs.Lists.{memb}
-use Rattle.network.specs.declared.Request.{Request}
 use Rattle.network.specs.declared.Grant.{Grant as Numbers}
 use Rattle.network.proofs.Tests.{by-test, by-bool}
 use Rattle.area.specs.Refusals.{Rule, _when_, refuses, grants, Answered}

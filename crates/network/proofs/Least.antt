@@ -1,4 +1,4 @@
--- What "best" and "distance" say: the least of all, not the greatest, and one number. A search's laws are about what it
+-- What `Best` and `Distance` say: the least of all, not the greatest, and one number. A search's laws are about what it
 -- finds; these are about the definitions alone.
 -- Assumes nothing.
 use mathlib.Core.Path.{_≡_, refl}

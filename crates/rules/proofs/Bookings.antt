@@ -15,7 +15,7 @@ use Rattle.network.specs.declared.Request.{Request}
 use Rattle.network.proofs.Tests.{by-bool, by-lt}
 use Rattle.network.proofs.Paths.{walk-links}
 use Rattle.network.proofs.Short.{path-short}
-use Rattle.area.specs.Station.{Circuit, Station, station}
+use Rattle.area.specs.Station.{Station, station}
 use Rattle.area.specs.Books.{holds, free, books, net}
 use Rattle.area.specs.Held.{foundAt}
 use Rattle.area.specs.Formed.{CircuitFits, Sound, WellFormed}

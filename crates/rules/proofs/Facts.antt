@@ -1,5 +1,5 @@
--- Small facts that the laws of the calls share: a grant is no refusal, a usable path is a path of the
--- table, and what the words of an area say of its books.
+-- Small facts that the laws of the calls share: a grant is no refusal, a usable path is a path of the table, and what the
+-- words of an area say of its books.
 -- Assumes nothing.
 use Prim.Native.Nat.{ℕ, _≤_}
 use mathlib.Core.Path.{_≡_, refl}

@@ -1,5 +1,6 @@
--- What the code's enum says of a reply, what a granted path in the buffer is, and what a quote and an admission promise at
--- a return: the reply that the code came to is the call's, and the call's means what the rules say.
+-- What the code's enum says of a reply, what a granted path in the buffer is, and what a quote, an admission and a release
+-- promise at a return: the reply that the code came to is the call's, so its answer and what it leaves mean what the rules
+-- say.
 -- Assumes nothing.
 use Prim.Native.Nat.{ℕ, _≤_}
 use mathlib.Core.Path.{_≡_, refl, sym, ap, _∙_, subst}

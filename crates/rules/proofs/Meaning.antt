@@ -1,14 +1,14 @@
 -- The replies mean what the rules say. Each check's test fails just where its rule applies, so the first check that
 -- fails is the first rule that applies; past the checks the route search keeps its stated result.
 -- Assumes nothing.
-use Prim.Native.Nat.{ℕ, _≤_, _<_}
-use mathlib.Core.Path.{_≡_, refl, sym, _∙_}
-use mathlib.Core.Bool.{Bool, true, false, cond, not, true≢false}
+use Prim.Native.Nat.{ℕ, _<_}
+use mathlib.Core.Path.{_≡_, refl}
+use mathlib.Core.Bool.{true, not}
 use mathlib.Core.List.{List, [], _∷_, _++_}
 use mathlib.Core.Logic.{_⊎_, inl, inr}
 use native.Mathlib.Omega.{arith}
 use lib.Dec.{ltb, leb, eqb}
-use borrow.Author.Tests.{leb-true, leb-false, ltb-true, ltb-false, lt-ltb, eqb-false, ne-eqb, not-true}
+use borrow.Author.Tests.{ltb-true, lt-ltb, eqb-false, ne-eqb, not-true}
 use Rattle.network.specs.Net.{Net}
 use Rattle.network.specs.Reduce.{delayBound, costBound, Outcome, no-path, no-solution, granted}
 use Rattle.network.specs.declared.Request.{Request}

@@ -16,7 +16,7 @@ use Rattle.text_format.specs.Decimal.{decimal}
 use Rattle.text_format.specs.Fields.{fields}
 use Rattle.text_format.proofs.Puts.{Put, put-behind, Left, left-behind, none-left}
 use Rattle.cases.specs.Document01.{Case, cases, noCase, caseAt, rows}
-use Rattle.cases.proofs.Rows.{row-at}
+use Rattle.cases.proofs.Rows.{many, row-at}
 use Rattle.worked_cases.specs.Lines.{askedIn, nameText, replyText, caseLine, linesOf, caseLines}
 
 -- ---- one line
@@ -53,10 +53,6 @@ name-put r t t1 t2 t3 t4 at m n o e letter number asked equals =
     put-behind t t1 t4 (77 ∷ []) (decimal (getD r 0 0) ++ fields (askedIn r) ++ 32 ∷ 61 ∷ []) at m e letter rest
 
 -- ---- the loop of `put_cases`
-many : length cases ≡ 15
-unfolding cases
-many = refl
-
 -- before the first turn all lines are left to put
 pub lines-none : (t : List ℕ) → Left t 0 (linesOf (drop 0 cases)) (sets t 0 caseLines) (length caseLines)
 unfolding caseLines
