@@ -1,15 +1,16 @@
 /*
- * The line controller's calls for C and C++. Link with the archive that `rt staticlib line` writes,
- * target/staticlib/libline.a; it is for x86-64, and of the C library it needs memcpy and memset alone.
+ * The line controller's calls for C and C++. docs/MANUAL.md is the reference manual. Link with the archive that
+ * `rt staticlib line` writes, target/staticlib/libline.a; it is for x86-64, and of the C library it needs memcpy and
+ * memset alone.
  *
- * All numbers are 32-bit unsigned words. Each function returns 0 for a grant, or else one of the
- * refusal numbers below, the first that applies in the order given at the function. A refusal leaves
- * every buffer as it was, but for work memory, which is open after any call that takes it.
+ * All numbers are 32-bit unsigned words. Each function returns 0 for a grant, or else one of the refusal numbers
+ * below, the first that applies in the order given at the function. A refusal leaves every buffer as it was, but for
+ * work memory, which is open after any call that takes it.
  *
- * What the caller owes, and all that it owes: each pointer is aligned, is not null and leads to as
- * many elements as the count beside it says (an answer array to as many as are named); the buffers of
- * one call do not overlap; and no other thread writes them meanwhile. Any numbers, any contents and
- * any counts are taken.
+ * What the caller owes, and all that it owes: each pointer is aligned, is not null and leads to as many elements as
+ * the count beside it says (an answer array to as many as are named); the buffers of one call do not overlap; and
+ * meanwhile no other thread writes them, nor reads those that the call writes. Any numbers, any contents and any counts
+ * are taken; one out of the ranges given at the function is refused.
  */
 #ifndef LINE_H
 #define LINE_H
@@ -33,6 +34,30 @@ extern "C" {
 #define LINE_LINK_WORDS 5
 #define LINE_TABLE_WORDS 1280
 
+/* Where an area's links and circuits begin, and the words of a circuit: number, units, link count, path words. */
+#define LINE_FIRST_LINK 3
+#define LINE_FIRST_CIRCUIT 1283
+#define LINE_CIRCUIT_WORDS 34
+
+/* Ranges of a net: a delay, a cost and a capacity may be 0. */
+#define LINE_LEAST_NODES 2
+#define LINE_MOST_DELAY 1000000
+#define LINE_MOST_COST 1000000
+#define LINE_MOST_CAPACITY 65535
+
+/* Ranges of a request and of a circuit; x is the coefficient times the fewest links of any usable path. */
+#define LINE_LEAST_UNITS 1
+#define LINE_MOST_UNITS 65535
+#define LINE_LEAST_BOUND 1
+#define LINE_MOST_DELAY_BOUND 31000000
+#define LINE_MOST_COST_BOUND 31000000
+#define LINE_LEAST_COEFFICIENT 1
+#define LINE_MOST_COEFFICIENT 8
+#define LINE_MOST_X 248
+#define LINE_MOST_PATH_LINKS 31
+#define LINE_LEAST_CIRCUIT_NUMBER 1
+#define LINE_MOST_CIRCUIT_NUMBER 65535
+
 /* How many service classes there are: 0 card, 1 PIN, 2 tank, 3 prices, 4 service, 5 pictures. */
 #define LINE_CLASSES 6
 
@@ -40,7 +65,7 @@ extern "C" {
 #define LINE_GRANTED 0
 #define LINE_AREA_TOO_SHORT 1        /* load: the area has under 3,459 words */
 #define LINE_NODES_OUT_OF_RANGE 2    /* load: n is not 2 to 32 */
-#define LINE_TABLE_LENGTH 3          /* load: the words are no multiple of five, or over 1,280 */
+#define LINE_TABLE_LENGTH 3          /* load: the words are no multiple of 5, or over 1,280 */
 #define LINE_LINK_OUT_OF_RANGE 4     /* load: a field of a link is out of range */
 #define LINE_AREA_NOT_WELL_FORMED 5  /* the area is too short or not well formed */
 #define LINE_WORK_TOO_SHORT 6        /* work memory has under 16,384 words */
@@ -59,43 +84,71 @@ extern "C" {
 #define LINE_TABLE_TOO_SHORT 19      /* the table buffer has under 5 m words */
 
 /*
- * Loads a link table of link_words words, five a link: from, to, delay, cost, capacity. It writes n, m,
- * 0 and the links into the area; the other words keep theirs. 1, 2, 3, 4.
+ * Loads a link table, 5 words a link: from, to, delay, cost, capacity. It writes n, m, 0 and the links into the
+ * area; the other words keep theirs.
+ * Ranges: n 2 to 32; link_words a multiple of 5, at most 1,280; area_words at least 3,459; from below n; to below n
+ * and not from; delay 0 to 1,000,000; cost 0 to 1,000,000; capacity 0 to 65,535.
+ * Refusals: 1, 2, 3, 4.
  */
 uint32_t line_load(uint32_t n, const uint32_t *links, size_t link_words, uint32_t *area, size_t area_words);
 
 /*
- * Quotes a path from s to t: answer[0] to answer[3] are the problem (1 or 2), delay, cost and number of
- * links; the path's links stand in as many first words of path. 5, 6, 7, 8, 9, 10.
+ * Quotes a path from s to t: answer[0] to answer[3] are the problem (1 or 2), delay, cost and number of links; the
+ * path's links stand in as many first words of path.
+ * Ranges: area_words at least 3,459; work_words at least 16,384; path_words at least 31; s below n; t below n and not
+ * s; units 1 to 65,535; delay_bound 1 to 31,000,000; cost_bound 1 to 31,000,000; coefficient 1 to 8.
+ * Refusals: 5, 6, 7, 8, 9, 10.
  */
 uint32_t line_quote(const uint32_t *area, size_t area_words, uint32_t *work, size_t work_words,
                     uint32_t *path, size_t path_words, uint32_t s, uint32_t t, uint32_t units,
                     uint32_t delay_bound, uint32_t cost_bound, uint32_t coefficient, uint32_t answer[4]);
 
-/* Answers as a quote does, and adds the circuit to the area. 5, 6, 7, 8, 11, 12, 9, 10. */
+/*
+ * Answers as a quote does, and adds the circuit to the area. Its number must not be held.
+ * Ranges: area_words at least 3,459; work_words at least 16,384; path_words at least 31; circuit 1 to 65,535; s below
+ * n; t below n and not s; units 1 to 65,535; delay_bound 1 to 31,000,000; cost_bound 1 to 31,000,000; coefficient 1
+ * to 8.
+ * Refusals: 5, 6, 7, 8, 11, 12, 9, 10.
+ */
 uint32_t line_admit(uint32_t *area, size_t area_words, uint32_t *work, size_t work_words, uint32_t *path,
                     size_t path_words, uint32_t circuit, uint32_t s, uint32_t t, uint32_t units,
                     uint32_t delay_bound, uint32_t cost_bound, uint32_t coefficient, uint32_t answer[4]);
 
-/* Releases a circuit: it goes, and the others remain. 5, 13. */
+/*
+ * Releases a circuit: it goes, and the others remain. Its number must be held.
+ * Ranges: area_words at least 3,459; circuit 1 to 65,535.
+ * Refusals: 5, 13.
+ */
 uint32_t line_release(uint32_t *area, size_t area_words, uint32_t circuit);
 
 /*
- * Lists the numbers of the held circuits, each once and in no set order, in the first words of numbers;
- * answer[0] is how many they are. 5, 14.
+ * Lists the numbers of the h held circuits, each once and in no set order, in the first words of numbers; answer[0]
+ * is h.
+ * Ranges: area_words at least 3,459; number_words at least h, and 64 always suffice.
+ * Refusals: 5, 14.
  */
 uint32_t line_list(const uint32_t *area, size_t area_words, uint32_t *numbers, size_t number_words,
                    uint32_t answer[1]);
 
-/* answer[0] is the free units of a link. 5, 15. */
+/*
+ * answer[0] is the free units of a link.
+ * Ranges: area_words at least 3,459; link below m.
+ * Refusals: 5, 15.
+ */
 uint32_t line_free_units(const uint32_t *area, size_t area_words, uint32_t link, uint32_t answer[1]);
 
-/* What a service class asks for: answer[0] to answer[3] are units, delay bound, cost bound, coefficient. 16. */
+/*
+ * What a service class asks for: answer[0] to answer[3] are units, delay bound, cost bound, coefficient.
+ * Ranges: service_class 0 to 5.
+ * Refusals: 16.
+ */
 uint32_t line_class(uint32_t service_class, uint32_t answer[4]);
 
 /*
- * Reads a link file: answer[0] is n, answer[1] is m, and the words of the m links stand in the first
- * 5 m words of table. n and the links are checked by line_load. 17, 18, 19.
+ * Reads a link file: answer[0] is n, answer[1] is m, and the words of the m links stand in the first 5 m words of
+ * table. n and the links are checked by line_load.
+ * Ranges: file_bytes at least 16; table_words at least 5 m, and 1,280 always suffice; m at most 256.
+ * Refusals: 17, 18, 19.
  */
 uint32_t line_read_link_file(const uint8_t *file, size_t file_bytes, uint32_t *table, size_t table_words,
                              uint32_t answer[2]);

@@ -169,8 +169,8 @@ int main(void)
     row("line_admit", "problem two", admit, LINE_GRANTED);
     row("line_list", "listed", list, LINE_GRANTED);
     row("line_release", "released", release, LINE_GRANTED);
-    row("line_free_units", "told", free_units, LINE_GRANTED);
-    row("line_class", "told", class_row, LINE_GRANTED);
+    row("line_free_units", "answered", free_units, LINE_GRANTED);
+    row("line_class", "answered", class_row, LINE_GRANTED);
     row("line_read_link_file", "read", read_link_file, LINE_GRANTED);
     return 0;
 }

@@ -11,8 +11,8 @@ use Rattle.rules.specs.declared.RequestAnswer.{RequestAnswer}
 use Rattle.rules.specs.declared.RequestAnswer.the-variants as answer
 use Rattle.rules.specs.declared.ReleaseAnswer.{ReleaseAnswer}
 use Rattle.rules.specs.declared.ReleaseAnswer.the-variants as release
-use Rattle.area.specs.declared.Reading.{Reading}
-use Rattle.area.specs.declared.Reading.the-variants as reading
+use Rattle.area.specs.declared.ValueAnswer.{ValueAnswer}
+use Rattle.area.specs.declared.ValueAnswer.the-variants as value
 use Rattle.text_format.specs.Fields.{fields}
 
 -- a field for each of these numbers, and the newline
@@ -45,10 +45,10 @@ unfolding lineText
 releaseText (release.Refused k) = refusedText k
 releaseText release.Released = 32 ∷ 114 ∷ 101 ∷ 108 ∷ 101 ∷ 97 ∷ 115 ∷ 101 ∷ 100 ∷ 10 ∷ []
 
-unfoldable pub readingText : Reading → List ℕ
+unfoldable pub valueText : ValueAnswer → List ℕ
 unfolding lineText
-readingText (reading.Refused k) = refusedText k
-readingText (reading.Value v) = lineText (v ∷ [])
+valueText (value.Refused k) = refusedText k
+valueText (value.Value v) = lineText (v ∷ [])
 
 -- a load has a line of its own, so no space stands before its 0, or it is `loaded`
 unfoldable pub loadingText : Loading → List ℕ

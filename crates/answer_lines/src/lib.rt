@@ -5,9 +5,9 @@ ghost use mathlib.Core.Path.{_≡_};
 ghost use Prim.Native.Nat.{_+_, _*_, _≤_};
 ghost use lib.ListN.{length, take};
 ghost use lib.Seq.{sets};
-ghost use Rattle.answer_lines.specs.Answers.{lineText, refusedText, pathText, grantText, answerText, releaseText, readingText, loadingText};
+ghost use Rattle.answer_lines.specs.Answers.{lineText, refusedText, pathText, grantText, answerText, releaseText, valueText, loadingText};
 use area::Loading;
-use area::Reading;
+use area::ValueAnswer;
 use links::link;
 use network::Grant;
 use rules::ReleaseAnswer;
@@ -36,7 +36,7 @@ fn put_refused(text: &mut [u8], at: usize, k: u32) -> usize
 }
 
 // A path's words: as many of the first as there are links.
-fn path_told(words: &[u32], links: u32) -> &[u32]
+fn path_words(words: &[u32], links: u32) -> &[u32]
     ensures { λ r. ⌜ now r ≡ take links (now (words .entry)) ⌝ }
     ensures { λ r. ⌜ length (now r) ≤ length (now (words .entry)) ⌝ }
 {
@@ -55,7 +55,7 @@ pub fn put_path(text: &mut [u8], at: usize, words: &[u32], links: u32) -> usize
     ensures most { λ r. ⌜ r ≤ at + 11 * length (now (words .entry)) + 1 ⌝ }
     ensures text { λ _. ⌜ now (text .exit) ≡ sets (now (text .entry)) at (pathText links (now (words .entry))) ⌝ }
 {
-    put_line(text, at, path_told(words, links))
+    put_line(text, at, path_words(words, links))
 }
 
 // Problem, delay, cost and the path.
@@ -98,15 +98,15 @@ pub fn put_release(text: &mut [u8], at: usize, answer: ReleaseAnswer) -> usize
 }
 
 // What a listing or a question for free units answered. The programs lend room for two fields and the newline.
-pub fn put_reading(text: &mut [u8], at: usize, reading: Reading) -> usize
+pub fn put_value(text: &mut [u8], at: usize, value: ValueAnswer) -> usize
     requires { ⌜ at + 23 ≤ length (now text) ⌝ }
-    ensures end { λ r. ⌜ r ≡ at + length (readingText reading) ⌝ }
+    ensures end { λ r. ⌜ r ≡ at + length (valueText value) ⌝ }
     ensures most { λ r. ⌜ r ≤ at + 23 ⌝ }
-    ensures text { λ _. ⌜ now (text .exit) ≡ sets (now (text .entry)) at (readingText reading) ⌝ }
+    ensures text { λ _. ⌜ now (text .exit) ≡ sets (now (text .entry)) at (valueText value) ⌝ }
 {
-    match reading {
-        Reading::Refused(k) => put_refused(text, at, k),
-        Reading::Value(v) => {
+    match value {
+        ValueAnswer::Refused(k) => put_refused(text, at, k),
+        ValueAnswer::Value(v) => {
             let numbers = [v];
             put_line(text, at, &numbers)
         }

@@ -10,6 +10,8 @@ use native.Mathlib.Numerals.{add-one}
 use native.Mathlib.Omega.{arith}
 use lib.ListN.{length, getD, set, length-set}
 use lib.Seq.{sets, length-sets, getD-set-same, getD-set-other}
+use Rattle.network.specs.Limits.{mostLinks, mostPathLinks}
+use Rattle.area.specs.Layout.{areaWords, circuitWords, mostCircuits}
 use Rattle.area.specs.Station.{Circuit, wordsAt, place, circuitAt, circuits, station}
 use Rattle.area.specs.Moves.{wordsOf, added, withCircuit, Untouched}
 use Rattle.area.proofs.WordsAt.{words-at}
@@ -62,7 +64,7 @@ added-count w c fits =
     getD-set-same (sets w (place (getD w 2 0)) (wordsOf c)) 2 (getD w 2 0 + 1) 0 (rw length-sets (omega arith)) ∙ add-one (getD w 2 0)
 
 -- an admission leaves n, m, the links and the words past the circuits
-pub added-untouched : (w : List ℕ) (c : Circuit) → getD w 2 0 < 64 → length (c .path) ≤ 31 → Untouched w (added w c)
+pub added-untouched : (w : List ℕ) (c : Circuit) → getD w 2 0 < mostCircuits → length (c .path) ≤ mostPathLinks → Untouched w (added w c)
 added-untouched w c room short =
     record {
       nodes = added-before w c 0 (omega arith) (omega arith);
@@ -73,7 +75,7 @@ added-untouched w c room short =
     }
 
 -- the area with a circuit more is the station with that circuit
-pub added-station : (w : List ℕ) (c : Circuit) → 3459 ≤ length w → getD w 1 0 ≤ 256 → getD w 2 0 < 64 → length (c .path) ≤ 31
+pub added-station : (w : List ℕ) (c : Circuit) → areaWords ≤ length w → getD w 1 0 ≤ mostLinks → getD w 2 0 < mostCircuits → length (c .path) ≤ mostPathLinks
     → station (added w c) ≡ withCircuit (station w) c
 unfolding station
 added-station w c long few room short =
@@ -81,8 +83,8 @@ added-station w c long few room short =
   where
     new : circuitAt (added w c) (getD w 2 0) ≡ c
     new =
-        circuit-read (wordsAt (added w c) (place (getD w 2 0)) 34) c
-        λ i low. words-at (added w c) (place (getD w 2 0)) 34 i (omega arith) ∙ added-in w c i (omega arith) low
+        circuit-read (wordsAt (added w c) (place (getD w 2 0)) circuitWords) c
+        λ i low. words-at (added w c) (place (getD w 2 0)) circuitWords i (omega arith) ∙ added-in w c i (omega arith) low
 
     old : circuits (added w c) (getD w 2 0) ≡ circuits w (getD w 2 0)
     old =

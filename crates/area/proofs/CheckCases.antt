@@ -8,19 +8,22 @@ use mathlib.Core.List.{List}
 use native.Mathlib.Omega.{arith}
 use lib.ListN.{length, getD}
 use borrow.Author.Tests.{le-leb, lt-leb}
+use Rattle.network.specs.Limits.{leastNodes, linkWords, mostLinks, mostNodes}
+use Rattle.network.specs.Ranges.{inRange}
+use Rattle.area.specs.Layout.{areaWords, firstLink, mostCircuits}
 use Rattle.area.specs.declared.Checked.{Checked}
 use Rattle.area.specs.Station.{Table, tableIn, station, wordsAt, circuits}
-use Rattle.area.specs.Formed.{inRange, linksFit, tableFits, heldFit, unitsFit, sound, wellFormed}
+use Rattle.area.specs.Formed.{linksFit, tableFits, heldFit, unitsFit, sound, wellFormed}
 use Rattle.area.specs.Units.{left}
 use Rattle.area.specs.FreeIn.{freeIn}
-use Rattle.area.specs.Ready.{Links}
+use Rattle.area.specs.Parts.{CheckedLinks}
 use Rattle.area.proofs.Found.{held-length}
 use Rattle.area.proofs.Formed.{links-says}
 
--- m links that fit are links between at most 32 nodes
-pub links-ready : (n m : ℕ) (words : List ℕ) → n ≤ 32 → m ≤ 256 → length words ≡ 5 * m
+-- m links that fit are links between nodes in their range
+pub links-ready : (n m : ℕ) (words : List ℕ) → n ≤ mostNodes → m ≤ mostLinks → length words ≡ linkWords * m
     → linksFit (record { nodes = n; links = m; words = words }) ≡ true
-    → Links m words
+    → CheckedLinks m words
 links-ready n m words few-nodes few exact fit =
     let each = links-says (record { nodes = n; links = m; words = words }) fit in
     record {
@@ -49,17 +52,17 @@ module _ (w : List ℕ) where
   h = getD w 2 0
 
   abbrev words : List ℕ
-  words = wordsAt w 3 (5 * m)
+  words = wordsAt w firstLink (linkWords * m)
 
   abbrev pub table : Table
   table = record { nodes = n; links = m; words = words }
 
   -- what has been checked before the circuits
-  module _ (long : 3459 ≤ length w) (nodes : inRange 2 32 n ≡ true) (few : m ≤ 256) (links : linksFit table ≡ true) (held : h ≤ 64) where
+  module _ (long : areaWords ≤ length w) (nodes : inRange leastNodes mostNodes n ≡ true) (few : m ≤ mostLinks) (links : linksFit table ≡ true) (held : h ≤ mostCircuits) where
     circuits-left : wellFormed w ≡ cond (heldFit m words (circuits w h)) (unitsFit m words (circuits w h)) false
     unfolding wellFormed sound station tableIn tableFits
     circuits-left =
-        rw (le-leb 3459 (length w) long, nodes, le-leb m 256 few, links, held-length w h, le-leb h 64 held) (and-cond (heldFit m words (circuits w h)) _)
+        rw (le-leb areaWords (length w) long, nodes, le-leb m mostLinks few, links, held-length w h, le-leb h mostCircuits held) (and-cond (heldFit m words (circuits w h)) _)
 
     module _ (r : Checked) (fit : heldFit m words (circuits w h) ≡ true) (formed : r .formed ≡ unitsFit m words (circuits w h))
         (free : (i : ℕ) → getD (r .free) i 0 ≡ left m words (circuits w h) i) where
@@ -76,38 +79,38 @@ module _ (w : List ℕ) where
     unfolding freeIn
     unfit-says e = (is ∙ sym e, λ i. rw e (none i))
 
-    pub area-short : length w < 3459 → Answers r
+    pub area-short : length w < areaWords → Answers r
     unfolding wellFormed
-    area-short high = unfit-says (rw (lt-leb 3459 (length w) high) refl)
+    area-short high = unfit-says (rw (lt-leb areaWords (length w) high) refl)
 
-    module _ (long : 3459 ≤ length w) where
-      pub nodes-out : inRange 2 32 n ≡ false → Answers r
+    module _ (long : areaWords ≤ length w) where
+      pub nodes-out : inRange leastNodes mostNodes n ≡ false → Answers r
       unfolding wellFormed sound station tableIn tableFits
-      nodes-out e = unfit-says (rw (le-leb 3459 (length w) long, e) refl)
+      nodes-out e = unfit-says (rw (le-leb areaWords (length w) long, e) refl)
 
-      module _ (nodes : inRange 2 32 n ≡ true) where
-        pub links-many : 256 < m → Answers r
+      module _ (nodes : inRange leastNodes mostNodes n ≡ true) where
+        pub links-many : mostLinks < m → Answers r
         unfolding wellFormed sound station tableIn tableFits
-        links-many high = unfit-says (rw (le-leb 3459 (length w) long, nodes, lt-leb m 256 high) refl)
+        links-many high = unfit-says (rw (le-leb areaWords (length w) long, nodes, lt-leb m mostLinks high) refl)
 
-        module _ (few : m ≤ 256) where
+        module _ (few : m ≤ mostLinks) where
           pub link-out : linksFit table ≡ false → Answers r
           unfolding wellFormed sound station tableIn tableFits
-          link-out e = unfit-says (rw (le-leb 3459 (length w) long, nodes, le-leb m 256 few, e) refl)
+          link-out e = unfit-says (rw (le-leb areaWords (length w) long, nodes, le-leb m mostLinks few, e) refl)
 
           module _ (links : linksFit table ≡ true) where
-            pub circuits-many : 64 < h → Answers r
+            pub circuits-many : mostCircuits < h → Answers r
             unfolding wellFormed sound station tableIn tableFits
             circuits-many high =
-                unfit-says (rw (le-leb 3459 (length w) long, nodes, le-leb m 256 few, links, held-length w h, lt-leb h 64 high) refl)
+                unfit-says (rw (le-leb areaWords (length w) long, nodes, le-leb m mostLinks few, links, held-length w h, lt-leb h mostCircuits high) refl)
 
-            pub circuit-out : h ≤ 64 → heldFit m words (circuits w h) ≡ false → Answers r
+            pub circuit-out : h ≤ mostCircuits → heldFit m words (circuits w h) ≡ false → Answers r
             circuit-out held e = unfit-says (circuits-left long nodes few links held ∙ rw e refl)
 
 -- the numbers and the link words as the code holds them
-module _ (w : List ℕ) {m' : ℕ} {words' : List ℕ} (is-m : m' ≡ m w) (is-words : words' ≡ wordsAt w 3 (5 * m')) where
+module _ (w : List ℕ) {m' : ℕ} {words' : List ℕ} (is-m : m' ≡ m w) (is-words : words' ≡ wordsAt w firstLink (linkWords * m')) where
   words-is : words' ≡ words w
-  words-is = is-words ∙ ap (λ (k : ℕ). wordsAt w 3 (5 * k)) is-m
+  words-is = is-words ∙ ap (λ (k : ℕ). wordsAt w firstLink (linkWords * k)) is-m
 
   pub links-same : (v : ℕ) → linksFit (record { nodes = v; links = m'; words = words' }) ≡ linksFit (record { nodes = v; links = m w; words = words w })
   links-same v = rw (words-is, is-m) refl

@@ -16,11 +16,11 @@ use Rattle.area.specs.Checks.{Check, _unless_, firstFailing, unlessRefus
 
 -- ---- the first that fails
 -- the checks `cs` pass and c, which comes behind them, fails
-pub first-told : (c : Check) (more : List Check) → c .passes ≡ false
+pub first-number : (c : Check) (more : List Check) → c .passes ≡ false
     → (cs : List Check) → All (λ (b : Check). b .passes ≡ true) cs
     → firstFailing (cs ++ c ∷ more) ≡ c .number
-first-told c more fails [] ok = rw fails refl
-first-told c more fails (b ∷ cs) ok = rw (ok .0) (first-told c more fails cs (ok .1))
+first-number c more fails [] ok = rw fails refl
+first-number c more fails (b ∷ cs) ok = rw (ok .0) (first-number c more fails cs (ok .1))
 
 -- every check's number is over 0, as document 01's are
 abbrev pub numbered : List Check → Bool

@@ -9,23 +9,26 @@ use Prim.Native.Nat.{ℕ, zero, suc, _≤_}
 use lib.Dec.{eqb}
 use lib.ListN.{length, getD}
 use borrow.Author.Tests.{not-true, not-false}
+use Rattle.network.specs.Limits.{leastPathLinks, leastUnits, mostPathLinks, mostUnits}
 use Rattle.network.specs.Loops.{every}
+use Rattle.network.specs.Ranges.{inRange}
+use Rattle.network.proofs.Ranges.{range-says}
+use Rattle.area.specs.Layout.{circuitWords, leastNumber, mostNumber}
 use Rattle.area.specs.Station.{wordsAt, place, circuitOf, circuitAt, circuits}
 use Rattle.area.specs.Books.{holds}
 use Rattle.area.specs.Held.{numberAt, foundAt}
-use Rattle.area.specs.Formed.{inRange, pathFits, circuitFits, heldFit}
-use Rattle.area.specs.Ready.{placeFits}
+use Rattle.area.specs.Formed.{pathFits, circuitFits, heldFit}
+use Rattle.area.specs.Parts.{placeFits}
 use Rattle.area.proofs.WordsAt.{words-length}
 use Rattle.area.proofs.Found.{unheld-found}
-use Rattle.area.proofs.Formed.{range-says}
 
 -- ---- a number in range
-module _ (low high x : ℕ) {t : Bool} (test : t ≡ inRange low high x) (in-it : not t ≡ false) where
-  pub range-least : low ≤ x
-  range-least = range-says low high x (sym test ∙ not-false _ in-it) .0
+module _ (low high n : ℕ) {t : Bool} (test : t ≡ inRange low high n) (in-it : not t ≡ false) where
+  pub range-least : low ≤ n
+  range-least = range-says low high n (sym test ∙ not-false _ in-it) .0
 
-  pub range-most : x ≤ high
-  range-most = range-says low high x (sym test ∙ not-false _ in-it) .1
+  pub range-most : n ≤ high
+  range-most = range-says low high n (sym test ∙ not-false _ in-it) .1
 
 -- ---- a circuit's words
 -- a part has the length that was asked for
@@ -35,26 +38,26 @@ part-length w a n e = ap length e ∙ words-length w a n
 module _ (m : ℕ) (words c : List ℕ) where
   -- the path's length is the count word
   circuit-tests : circuitFits m words (circuitOf c)
-      ≡ (inRange 1 65535 (getD c 0 0)
-      && (inRange 1 65535 (getD c 1 0) && (inRange 1 31 (getD c 2 0) && pathFits m words (wordsAt c 3 (getD c 2 0)))))
+      ≡ (inRange leastNumber mostNumber (getD c 0 0)
+      && (inRange leastUnits mostUnits (getD c 1 0) && (inRange leastPathLinks mostPathLinks (getD c 2 0) && pathFits m words (wordsAt c 3 (getD c 2 0)))))
   unfolding circuitFits circuitOf
   circuit-tests = rw (words-length c 3 (getD c 2 0)) refl
 
   -- one of the first three words out of range
-  pub number-out : {t : Bool} → t ≡ inRange 1 65535 (getD c 0 0) → not t ≡ true → false ≡ circuitFits m words (circuitOf c)
+  pub number-out : {t : Bool} → t ≡ inRange leastNumber mostNumber (getD c 0 0) → not t ≡ true → false ≡ circuitFits m words (circuitOf c)
   number-out {t} e out = rw (circuit-tests, ← e, not-true t out) refl
 
-  module _ {a : Bool} (number : a ≡ inRange 1 65535 (getD c 0 0)) (number-in : not a ≡ false) where
-    pub units-out : {t : Bool} → t ≡ inRange 1 65535 (getD c 1 0) → not t ≡ true → false ≡ circuitFits m words (circuitOf c)
+  module _ {a : Bool} (number : a ≡ inRange leastNumber mostNumber (getD c 0 0)) (number-in : not a ≡ false) where
+    pub units-out : {t : Bool} → t ≡ inRange leastUnits mostUnits (getD c 1 0) → not t ≡ true → false ≡ circuitFits m words (circuitOf c)
     units-out {t} e out = rw (circuit-tests, ← number, not-false a number-in, ← e, not-true t out) refl
 
-    module _ {b : Bool} (units : b ≡ inRange 1 65535 (getD c 1 0)) (units-in : not b ≡ false) where
-      pub count-out : {t : Bool} → t ≡ inRange 1 31 (getD c 2 0) → not t ≡ true → false ≡ circuitFits m words (circuitOf c)
+    module _ {b : Bool} (units : b ≡ inRange leastUnits mostUnits (getD c 1 0)) (units-in : not b ≡ false) where
+      pub count-out : {t : Bool} → t ≡ inRange leastPathLinks mostPathLinks (getD c 2 0) → not t ≡ true → false ≡ circuitFits m words (circuitOf c)
       count-out {t} e out =
           rw (circuit-tests, ← number, not-false a number-in, ← units, not-false b units-in, ← e, not-true t out) refl
 
       -- all in range: it is up to the path
-      pub path-left : (l : ℕ) (p : List ℕ) {d r : Bool} → d ≡ inRange 1 31 (getD c 2 0) → not d ≡ false
+      pub path-left : (l : ℕ) (p : List ℕ) {d r : Bool} → d ≡ inRange leastPathLinks mostPathLinks (getD c 2 0) → not d ≡ false
           → l ≡ getD c 2 0 → p ≡ wordsAt c 3 l → r ≡ pathFits m words p → r ≡ circuitFits m words (circuitOf c)
       path-left l p {d} count count-in e q fits =
           fits
@@ -63,9 +66,9 @@ module _ (m : ℕ) (words c : List ℕ) where
 -- ---- a place
 -- the code reads circuit j's words at its place, and tests them
 module _ (m : ℕ) (words w : List ℕ) (j at : ℕ) (here : at ≡ place j)
-    (p : List ℕ) (part : p ≡ wordsAt w at 34) {t : Bool} (test : t ≡ circuitFits m words (circuitOf p)) where
+    (p : List ℕ) (part : p ≡ wordsAt w at circuitWords) {t : Bool} (test : t ≡ circuitFits m words (circuitOf p)) where
   circuit-test : circuitFits m words (circuitAt w j) ≡ t
-  circuit-test = sym (test ∙ ap (λ (q : List ℕ). circuitFits m words (circuitOf q)) (part ∙ ap (λ (a : ℕ). wordsAt w a 34) here))
+  circuit-test = sym (test ∙ ap (λ (q : List ℕ). circuitFits m words (circuitOf q)) (part ∙ ap (λ (a : ℕ). wordsAt w a circuitWords) here))
 
   place-tests : placeFits m words w j ≡ (circuitFits m words (circuitAt w j) && not (holds (circuits w j) (numberAt w j)))
   unfolding placeFits

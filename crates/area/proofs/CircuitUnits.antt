@@ -11,6 +11,7 @@ use native.Mathlib.Omega.{arith}
 use lib.Dec.{leb}
 use lib.ListN.{length, getD}
 use borrow.Author.Tests.{le-leb, lt-leb}
+use Rattle.network.specs.Limits.{mostLinks, mostPathLinks}
 use Rattle.network.specs.Lists.{memb, Distinct}
 use Rattle.network.specs.Words.{field}
 use Rattle.network.proofs.Loops.{every-fails, every-all}
@@ -19,7 +20,7 @@ use Rattle.area.specs.Station.{Table, Circuit, wordsAt, circuitOf, circu
 use Rattle.area.specs.Books.{unitsOn, usage}
 use Rattle.area.specs.Formed.{CircuitFits, unitsFit}
 use Rattle.area.specs.Units.{enough, taken, left}
-use Rattle.area.specs.Ready.{Held}
+use Rattle.area.specs.Parts.{Held}
 use Rattle.area.proofs.WordsAt.{words-length}
 use Rattle.area.proofs.Found.{each-circuit}
 use Rattle.area.proofs.PathTest.{path-links-differ, path-links-low, path-member-low}
@@ -124,11 +125,11 @@ pub path-length : (c : List ℕ) → length (circuitOf c .path) ≡ getD c 2 0
 unfolding circuitOf
 path-length c = words-length c 3 (getD c 2 0)
 
--- a circuit that fits has at most 31 links, each one of the table
-pub circuit-short : (m : ℕ) (words c : List ℕ) → CircuitFits (tableWith m words) (circuitOf c) → getD c 2 0 ≤ 31
-circuit-short m words c fits = subst (λ (n : ℕ). n ≤ 31) (path-length c) (fits .links-most)
+-- a circuit that fits has no more links than a path may, each one of the table
+pub circuit-short : (m : ℕ) (words c : List ℕ) → CircuitFits (tableWith m words) (circuitOf c) → getD c 2 0 ≤ mostPathLinks
+circuit-short m words c fits = subst (λ (n : ℕ). n ≤ mostPathLinks) (path-length c) (fits .links-most)
 
-pub circuit-low : (m : ℕ) (words c : List ℕ) → m ≤ 256 → CircuitFits (tableWith m words) (circuitOf c)
-    → (k : ℕ) → k < getD c 2 0 → getD (circuitOf c .path) k 0 < 256
+pub circuit-low : (m : ℕ) (words c : List ℕ) → m ≤ mostLinks → CircuitFits (tableWith m words) (circuitOf c)
+    → (k : ℕ) → k < getD c 2 0 → getD (circuitOf c .path) k 0 < mostLinks
 circuit-low m words c few fits k low =
     omega (arith, path-links-low (tableWith m words) (circuitOf c .path) (fits .path) k (omega (arith, path-length c)))

@@ -9,12 +9,13 @@ use native.Mathlib.Omega.{arith}
 use lib.Dec.{ltb, leb}
 use lib.ListN.{length, getD}
 use Rattle.network.proofs.Tests.{by-eq}
+use Rattle.area.specs.Layout.{areaWords}
 use Rattle.area.specs.Station.{Circuit, Station, circuits, heldIn, station, tableIn}
 use Rattle.area.specs.Books.{free}
 use Rattle.area.specs.Held.{numberAt, numbersFrom}
 use Rattle.area.specs.Formed.{sound, wellFormed}
 use Rattle.area.specs.Checks.{_unless_, checked}
-use Rattle.area.specs.declared.Reading.the-variants.{Refused, Value}
+use Rattle.area.specs.declared.ValueAnswer.the-variants.{Refused, Value}
 use Rattle.area.specs.Reads.{listAnswer, listed, freeAnswer}
 use Rattle.area.proofs.Found.{circuit-number, held-length}
 
@@ -35,7 +36,7 @@ numbers-depend w w' h h' e same =
     let at-h : circuits w h ≡ circuits w' h = rw (← e) at same in
     numbers-from w w' 0 h (λ i low. numbers-at w w' h at-h i (omega arith)) ∙ ap (numbersFrom w' 0) e
 
-module _ (w w' : List ℕ) (long : leb 3459 (length w) ≡ leb 3459 (length w')) (same : station w ≡ station w') where
+module _ (w w' : List ℕ) (long : leb areaWords (length w) ≡ leb areaWords (length w')) (same : station w ≡ station w') where
   pub formed-depends : wellFormed w ≡ wellFormed w'
   unfolding wellFormed
   formed-depends = ap₂ _&&_ long (ap sound same)
@@ -46,9 +47,9 @@ module _ (w w' : List ℕ) (long : leb 3459 (length w) ≡ leb 3459 (length w'))
   held-depends =
       sym (held-length w (getD w 2 0)) ∙ ap (λ (s : Station). length (s .held)) same ∙ held-length w' (getD w' 2 0)
 
-  pub list-depends : (room : ℕ) → listAnswer w room ≡ listAnswer w' room
+  pub list-depends : (buffer : ℕ) → listAnswer w buffer ≡ listAnswer w' buffer
   unfolding listAnswer
-  list-depends room = rw (formed-depends, held-depends) refl
+  list-depends buffer = rw (formed-depends, held-depends) refl
 
   pub free-depends : (i : ℕ) → freeAnswer w i ≡ freeAnswer w' i
   unfolding freeAnswer station tableIn

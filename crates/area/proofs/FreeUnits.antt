@@ -10,7 +10,7 @@ use lib.Dec.{eqb, leb}
 use borrow.Author.Tests.{leb-true, le-leb}
 use Rattle.area.specs.Station.{Station, capacityOf}
 use Rattle.area.specs.Books.{Books, usage, free, net}
-use Rattle.area.specs.Formed.{Sound}
+use Rattle.area.specs.Formed.{SoundStation}
 use Rattle.area.specs.Usable.{flag}
 
 pub usable-exactly : (o : Books) (b i : ℕ) → (net o b .usable i ≡ true) ↔ (b ≤ o .free i)
@@ -26,5 +26,5 @@ flag-says b f = go (leb b f)
     go false = refl
 
 -- in a sound station nothing is lost by the subtraction
-pub free-units : (s : Station) → Sound s → (i : ℕ) → i < s .table .links → free s i + usage (s .held) i ≡ capacityOf (s .table) i
+pub free-units : (s : Station) → SoundStation s → (i : ℕ) → i < s .table .links → free s i + usage (s .held) i ≡ capacityOf (s .table) i
 free-units s sound i low = omega (arith, sound .within i low)

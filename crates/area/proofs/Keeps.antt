@@ -12,18 +12,19 @@ use borrow.Author.Tests.{eqb-true, eqb-false, ne-eqb, not-true}
 use Rattle.network.specs.Lists.{All, memb, distinctb, Distinct}
 use Rattle.network.proofs.Tests.{by-test, fst-of}
 use Rattle.network.proofs.Paths.{apart, distinct-test}
+use Rattle.area.specs.Layout.{mostCircuits}
 use Rattle.area.specs.Station.{Circuit, Station, capacityOf}
 use Rattle.area.specs.Books.{unitsOn, usage, numbers, holds, free}
-use Rattle.area.specs.Formed.{CircuitFits, Sound}
+use Rattle.area.specs.Formed.{CircuitFits, SoundStation}
 use Rattle.area.specs.Moves.{without, withCircuit, withoutNumber}
 use Rattle.area.proofs.Each.{images-each, each-image}
 
 -- ---- a circuit more
 -- a circuit that fits, with a number of its own and units that are free on its links
-pub sound-added : (s : Station) (c : Circuit) → Sound s → length (s .held) < 64 → CircuitFits (s .table) c
+pub sound-added : (s : Station) (c : Circuit) → SoundStation s → length (s .held) < mostCircuits → CircuitFits (s .table) c
     → holds (s .held) (c .number) ≡ false
     → ((i : ℕ) → memb i (c .path) ≡ true → c .units ≤ free s i)
-    → Sound (withCircuit s c)
+    → SoundStation (withCircuit s c)
 sound-added s c h room fits other enough =
     record {
       table = h .table;
@@ -69,7 +70,7 @@ usage-without k (c ∷ l) i =
     at-head k c l (λ m. usage m i ≤ usage (c ∷ l) i) (λ e. omega (arith, usage-without k l i)) (λ e. omega (arith, usage-without k l i))
 
 -- the circuits that are left fit as before, differ as before, and take no more units
-pub sound-removed : (s : Station) (k : ℕ) → Sound s → Sound (withoutNumber s k)
+pub sound-removed : (s : Station) (k : ℕ) → SoundStation s → SoundStation (withoutNumber s k)
 sound-removed s k h =
     record {
       table = h .table;

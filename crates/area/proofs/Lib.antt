@@ -1,4 +1,5 @@
 mod Each
+mod Agreement
 pub mod WordsAt
 pub mod Found
 mod PathTest

@@ -6,6 +6,7 @@ use mathlib.Core.List.{List}
 use Prim.Native.Nat.{ℕ, _≤_, _<_}
 use lib.Dec.{leb}
 use borrow.Author.Tests.{le-leb, lt-leb, le-ltb, lt-ltb, eq-eqb, ne-eqb}
+use Rattle.network.specs.Limits.{mostCapacity, mostCost, mostDelay}
 use Rattle.network.specs.Words.{field}
 use Rattle.area.specs.Station.{Table}
 use Rattle.area.specs.Formed.{linkFits}
@@ -28,19 +29,19 @@ module _ (n m : ℕ) (words : List ℕ) (i : ℕ) where
     ends-meet h = rw (lt-ltb (field words i 0) n a, lt-ltb (field words i 1) n b, eq-eqb (field words i 0) (field words i 1) h) refl
 
     module _ (d : field words i 0 ≡ field words i 1 → ⊥) where
-      pub delay-high : 1000000 < field words i 2 → false ≡ linkFits t i
+      pub delay-high : mostDelay < field words i 2 → false ≡ linkFits t i
       unfolding linkFits
       delay-high h =
-          rw (lt-ltb (field words i 0) n a, lt-ltb (field words i 1) n b, ne-eqb (field words i 0) (field words i 1) d, lt-leb (field words i 2) 1000000 h) refl
+          rw (lt-ltb (field words i 0) n a, lt-ltb (field words i 1) n b, ne-eqb (field words i 0) (field words i 1) d, lt-leb (field words i 2) mostDelay h) refl
 
-      pub cost-high : field words i 2 ≤ 1000000 → 1000000 < field words i 3 → false ≡ linkFits t i
+      pub cost-high : field words i 2 ≤ mostDelay → mostCost < field words i 3 → false ≡ linkFits t i
       unfolding linkFits
       cost-high e h =
-          rw (lt-ltb (field words i 0) n a, lt-ltb (field words i 1) n b, ne-eqb (field words i 0) (field words i 1) d, le-leb (field words i 2) 1000000 e, lt-leb (field words i 3) 1000000 h)
+          rw (lt-ltb (field words i 0) n a, lt-ltb (field words i 1) n b, ne-eqb (field words i 0) (field words i 1) d, le-leb (field words i 2) mostDelay e, lt-leb (field words i 3) mostCost h)
           refl
 
-      pub capacity-left : field words i 2 ≤ 1000000 → field words i 3 ≤ 1000000 → leb (field words i 4) 65535 ≡ linkFits t i
+      pub capacity-left : field words i 2 ≤ mostDelay → field words i 3 ≤ mostCost → leb (field words i 4) mostCapacity ≡ linkFits t i
       unfolding linkFits
       capacity-left e f =
-          rw (lt-ltb (field words i 0) n a, lt-ltb (field words i 1) n b, ne-eqb (field words i 0) (field words i 1) d, le-leb (field words i 2) 1000000 e, le-leb (field words i 3) 1000000 f)
+          rw (lt-ltb (field words i 0) n a, lt-ltb (field words i 1) n b, ne-eqb (field words i 0) (field words i 1) d, le-leb (field words i 2) mostDelay e, le-leb (field words i 3) mostCost f)
           refl

@@ -9,19 +9,22 @@ use native.Mathlib.Omega.{arith}
 use lib.ListN.{length, set}
 use lib.Seq.{sets, sets-eq}
 use borrow.Author.Tests.{le-leb, lt-leb, eq-eqb, ne-eqb}
+use Rattle.network.specs.Limits.{leastNodes, linkWords, mostNodes}
+use Rattle.network.specs.Ranges.{inRange}
+use Rattle.area.specs.Layout.{areaWords, tableWords}
 use Rattle.area.specs.declared.Loading.the-variants.{Refused, Loaded}
-use Rattle.area.specs.Formed.{inRange, linksFit}
+use Rattle.area.specs.Formed.{linksFit}
 use Rattle.area.specs.Load.{tableOf, loadAnswer, loaded, areaLoaded}
 
 -- n, m and 0 over the first three words, and the links behind them
 pub stored-loaded : (w : List ℕ) (n : ℕ) (links : List ℕ) → 3 + length links ≤ length w
-    → set (set (set (sets w 3 links) 0 n) 1 (length links / 5)) 2 0 ≡ loaded w n links
+    → set (set (set (sets w 3 links) 0 n) 1 (length links / linkWords)) 2 0 ≡ loaded w n links
 unfolding loaded
 stored-loaded [] n links fits = absurd (omega arith)
 stored-loaded (a ∷ []) n links fits = absurd (omega arith)
 stored-loaded (a ∷ b ∷ []) n links fits = absurd (omega arith)
 stored-loaded (a ∷ b ∷ d ∷ w) n links fits =
-    ap (λ (l : List ℕ). set (set (set l 0 n) 1 (length links / 5)) 2 0) (sets-eq links (a ∷ b ∷ d ∷ w) 3 fits)
+    ap (λ (l : List ℕ). set (set (set l 0 n) 1 (length links / linkWords)) 2 0) (sets-eq links (a ∷ b ∷ d ∷ w) 3 fits)
 
 module _ (w : List ℕ) (n : ℕ) (links : List ℕ) where
   -- the answer is this refusal, and the area stays
@@ -29,35 +32,35 @@ module _ (w : List ℕ) (n : ℕ) (links : List ℕ) where
   RefusedBy k = (Refused k ≡ loadAnswer w n links) × (w ≡ areaLoaded w n links)
 
   -- 1: the area is too short
-  pub area-short : length w < 3459 → RefusedBy 1
+  pub area-short : length w < areaWords → RefusedBy 1
   unfolding loadAnswer areaLoaded
-  area-short h = rw (lt-leb 3459 (length w) h) (refl, refl)
+  area-short h = rw (lt-leb areaWords (length w) h) (refl, refl)
 
-  module _ (long : 3459 ≤ length w) where
+  module _ (long : areaWords ≤ length w) where
     -- 2: n is out of range
-    pub nodes-out : inRange 2 32 n ≡ false → RefusedBy 2
+    pub nodes-out : inRange leastNodes mostNodes n ≡ false → RefusedBy 2
     unfolding loadAnswer areaLoaded
-    nodes-out h = rw (le-leb 3459 (length w) long, h) (refl, refl)
+    nodes-out h = rw (le-leb areaWords (length w) long, h) (refl, refl)
 
-    module _ (nodes : inRange 2 32 n ≡ true) where
+    module _ (nodes : inRange leastNodes mostNodes n ≡ true) where
       -- 3: the link words are not five a link
-      pub words-left-over : (length links % 5 ≡ 0 → ⊥) → RefusedBy 3
+      pub words-left-over : (length links % linkWords ≡ 0 → ⊥) → RefusedBy 3
       unfolding loadAnswer areaLoaded
-      words-left-over h = rw (le-leb 3459 (length w) long, nodes, ne-eqb (length links % 5) 0 h) (refl, refl)
+      words-left-over h = rw (le-leb areaWords (length w) long, nodes, ne-eqb (length links % linkWords) 0 h) (refl, refl)
 
-      module _ (whole : length links % 5 ≡ 0) where
-        -- 3: more than 256 links
-        pub words-many : 1280 < length links → RefusedBy 3
+      module _ (whole : length links % linkWords ≡ 0) where
+        -- 3: more links than a table has
+        pub words-many : tableWords < length links → RefusedBy 3
         unfolding loadAnswer areaLoaded
-        words-many h = rw (le-leb 3459 (length w) long, nodes, eq-eqb (length links % 5) 0 whole, lt-leb (length links) 1280 h) (refl, refl)
+        words-many h = rw (le-leb areaWords (length w) long, nodes, eq-eqb (length links % linkWords) 0 whole, lt-leb (length links) tableWords h) (refl, refl)
 
-        module _ (few : length links ≤ 1280) where
+        module _ (few : length links ≤ tableWords) where
           -- 4: a link does not fit
           pub link-out : linksFit (tableOf n links) ≡ false → RefusedBy 4
           unfolding loadAnswer areaLoaded
-          link-out h = rw (le-leb 3459 (length w) long, nodes, eq-eqb (length links % 5) 0 whole, le-leb (length links) 1280 few, h) (refl, refl)
+          link-out h = rw (le-leb areaWords (length w) long, nodes, eq-eqb (length links % linkWords) 0 whole, le-leb (length links) tableWords few, h) (refl, refl)
 
           -- every check passes
           pub all-pass : linksFit (tableOf n links) ≡ true → (Loaded ≡ loadAnswer w n links) × (loaded w n links ≡ areaLoaded w n links)
           unfolding loadAnswer areaLoaded
-          all-pass h = rw (le-leb 3459 (length w) long, nodes, eq-eqb (length links % 5) 0 whole, le-leb (length links) 1280 few, h) (refl, refl)
+          all-pass h = rw (le-leb areaWords (length w) long, nodes, eq-eqb (length links % linkWords) 0 whole, le-leb (length links) tableWords few, h) (refl, refl)

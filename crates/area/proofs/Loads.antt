@@ -10,15 +10,18 @@ use lib.Dec.{eqb}
 use lib.ListN.{length, getD, drop, length-append, length-drop, List·getD-append}
 use lib.Seq.{getD-append-add, getD-drop}
 use borrow.Author.Tests.{leb-true, eqb-true}
+use Rattle.network.specs.Limits.{leastNodes, linkWords, mostNodes}
 use Rattle.network.specs.Lists.{All}
 use Rattle.network.proofs.Tests.{fst-of, snd-of, zero-one}
+use Rattle.network.proofs.Ranges.{range-says}
+use Rattle.area.specs.Layout.{areaWords, firstLink, tableWords}
 use Rattle.area.specs.Station.{wordsAt, station, tableIn}
-use Rattle.area.specs.Formed.{Sound, WellFormed}
+use Rattle.area.specs.Formed.{SoundStation, WellFormed}
 use Rattle.area.specs.Checks.{Check, firstFailing}
 use Rattle.area.specs.declared.Loading.the-variants.{Refused, Loaded}
 use Rattle.area.specs.Load.{tableOf, fresh, loadChecks, loadAnswer, loaded, areaLoaded}
 use Rattle.area.proofs.Checks.{each-passes, all-pass}
-use Rattle.area.proofs.Formed.{range-says, links-says}
+use Rattle.area.proofs.Formed.{links-says}
 use Rattle.area.proofs.WordsAt.{words-list}
 
 module _ (w : List ℕ) (n : ℕ) (links : List ℕ) where
@@ -29,7 +32,7 @@ module _ (w : List ℕ) (n : ℕ) (links : List ℕ) where
       let back : i ≡ 3 + (length links + (i - (3 + length links))) = omega arith in
       let on : 3 + length links + (i - (3 + length links)) ≡ i = omega arith in
       ap (λ (k : ℕ). getD (loaded w n links) k 0) back
-      ∙ getD-append-add (n ∷ length links / 5 ∷ 0 ∷ []) (links ++ drop (3 + length links) w) (length links + (i - (3 + length links))) 0
+      ∙ getD-append-add (n ∷ length links / linkWords ∷ 0 ∷ []) (links ++ drop (3 + length links) w) (length links + (i - (3 + length links))) 0
       ∙ getD-append-add links (drop (3 + length links) w) (i - (3 + length links)) 0
       ∙ getD-drop (3 + length links) w (i - (3 + length links)) 0
       ∙ ap (λ (k : ℕ). getD w k 0) on
@@ -44,32 +47,32 @@ module _ (w : List ℕ) (n : ℕ) (links : List ℕ) where
     each : All (λ (c : Check). c .passes ≡ true) (loadChecks w n links)
     each = each-passes (loadChecks w n links) refl ok
 
-    long : 3459 ≤ length w
-    long = leb-true 3459 (length w) (each .0)
+    long : areaWords ≤ length w
+    long = leb-true areaWords (length w) (each .0)
 
-    nodes : (2 ≤ n) × (n ≤ 32)
-    nodes = range-says 2 32 n (each .1 .0)
+    nodes : (leastNodes ≤ n) × (n ≤ mostNodes)
+    nodes = range-says leastNodes mostNodes n (each .1 .0)
 
-    fives : 5 * (length links / 5) ≡ length links
-    fives = omega (arith, eqb-true (length links % 5) 0 (fst-of (eqb (length links % 5) 0) _ (each .1 .1 .0)))
+    fives : linkWords * (length links / linkWords) ≡ length links
+    fives = omega (arith, eqb-true (length links % linkWords) 0 (fst-of (eqb (length links % linkWords) 0) _ (each .1 .1 .0)))
 
-    few : length links ≤ 1280
-    few = leb-true (length links) 1280 (snd-of (eqb (length links % 5) 0) _ (each .1 .1 .0))
+    few : length links ≤ tableWords
+    few = leb-true (length links) tableWords (snd-of (eqb (length links % linkWords) 0) _ (each .1 .1 .0))
 
     -- the area is read as the table that was given, with no circuit
     pub loaded-station : station (loaded w n links) ≡ fresh n links
     unfolding station tableIn loaded
-    loaded-station = λ t. record { table = record { nodes = n; links = length links / 5; words = read t }; held = [] }
+    loaded-station = λ t. record { table = record { nodes = n; links = length links / linkWords; words = read t }; held = [] }
       where
-        read : wordsAt (loaded w n links) 3 (5 * (length links / 5)) ≡ links
+        read : wordsAt (loaded w n links) firstLink (linkWords * (length links / linkWords)) ≡ links
         read =
             ap (wordsAt (loaded w n links) 3) fives
             ∙ words-list (loaded w n links) 3 links λ i low.
-            getD-append-add (n ∷ length links / 5 ∷ 0 ∷ []) (links ++ drop (3 + length links) w) i 0
+            getD-append-add (n ∷ length links / linkWords ∷ 0 ∷ []) (links ++ drop (3 + length links) w) i 0
             ∙ List·getD-append links (drop (3 + length links) w) 0 i low
 
     -- a table that passed the checks, with no circuit, is sound
-    fresh-sound : Sound (fresh n links)
+    fresh-sound : SoundStation (fresh n links)
     fresh-sound =
         record {
           table = record {
@@ -89,7 +92,7 @@ module _ (w : List ℕ) (n : ℕ) (links : List ℕ) where
     loaded-formed =
         record {
           long = omega (arith, loaded-long (omega (arith, few, long)), long);
-          sound = subst Sound (sym loaded-station) fresh-sound;
+          sound = subst SoundStation (sym loaded-station) fresh-sound;
         }
 
   -- ---- by Load's answer, and the area that it leaves
@@ -97,8 +100,8 @@ module _ (w : List ℕ) (n : ℕ) (links : List ℕ) where
   unfolding loadAnswer
   accepted-passes e = all-pass Refused (loadChecks w n links) Loaded Loaded refusal e .0
     where
-      refusal : (k : ℕ) → Refused k ≡ Loaded → ⊥
-      refusal k f = zero-one cc
+      refusal : (number : ℕ) → Refused number ≡ Loaded → ⊥
+      refusal number f = zero-one cc
 
   accepted-loaded : loadAnswer w n links ≡ Loaded → areaLoaded w n links ≡ loaded w n links
   unfolding areaLoaded

@@ -9,9 +9,10 @@ use native.Mathlib.Omega.{arith}
 use lib.Dec.{eqb}
 use lib.ListN.{length}
 use Rattle.network.specs.Lists.{All, Distinct}
+use Rattle.area.specs.Layout.{mostCircuits}
 use Rattle.area.specs.Station.{Table, Circuit, Station, capacityOf}
 use Rattle.area.specs.Books.{unitsOn, usage, numbers, holds, books}
-use Rattle.area.specs.Formed.{CircuitFits, Sound}
+use Rattle.area.specs.Formed.{CircuitFits, SoundStation}
 use Rattle.area.specs.Moves.{without}
 use Rattle.area.specs.Order.{Same, alike, skip, swap, next, Agrees}
 use Rattle.area.proofs.Each.{images-each, each-image}
@@ -22,14 +23,14 @@ pub same-sym : {l m : List Circuit} → Same l m → Same m l
 same-sym alike = alike
 same-sym (skip h) = skip (same-sym h)
 same-sym swap = swap
-same-sym (next h k) = next (same-sym k) (same-sym h)
+same-sym (next h h') = next (same-sym h') (same-sym h)
 
 -- take as many units of each link
 pub usage-same : {l m : List Circuit} → Same l m → (i : ℕ) → usage l i ≡ usage m i
 usage-same alike i = refl
 usage-same (skip {c = c} h) i = ap (λ (n : ℕ). unitsOn c i + n) (usage-same h i)
 usage-same (swap {c = c} {d = d} {l = l}) i = omega arith
-usage-same (next h k) i = usage-same h i ∙ usage-same k i
+usage-same (next h h') i = usage-same h i ∙ usage-same h' i
 
 -- have the same numbers
 pub holds-same : {l m : List Circuit} → Same l m → (k : ℕ) → holds l k ≡ holds m k
@@ -43,7 +44,7 @@ pub count-same : {l m : List Circuit} → Same l m → length l ≡ length m
 count-same alike = refl
 count-same (skip h) = ap suc (count-same h)
 count-same swap = refl
-count-same (next h k) = count-same h ∙ count-same k
+count-same (next h h') = count-same h ∙ count-same h'
 
 -- `without` at a circuit, by the test
 tested : Bool → Circuit → List Circuit → List Circuit
@@ -74,7 +75,7 @@ pub all-same : (P : Circuit → Type 0) {l m : List Circuit} → Same l m → Al
 all-same P alike a = a
 all-same P (skip h) a = (a .0, all-same P h (a .1))
 all-same P swap a = (a .1 .0, (a .0, a .1 .1))
-all-same P (next h k) a = all-same P k (all-same P h a)
+all-same P (next h h') a = all-same P h' (all-same P h a)
 
 -- a statement of every number
 numbers-same : (P : ℕ → Type 0) {l m : List Circuit} → Same l m → All P (numbers l) → All P (numbers m)
@@ -86,7 +87,7 @@ pub differ-same : {l m : List Circuit} → Same l m → Distinct (numbers l) →
 differ-same alike a = a
 differ-same (skip {c = c} h) a = (numbers-same (λ b. c .number ≡ b → ⊥) h (a .0), differ-same h (a .1))
 differ-same swap a = ((λ e. a .0 .0 (sym e), a .1 .0), (a .0 .1, a .1 .1))
-differ-same (next h k) a = differ-same k (differ-same h a)
+differ-same (next h h') a = differ-same h' (differ-same h a)
 
 -- ---- stations that agree
 pub agrees-refl : (s : Station) → Agrees s s
@@ -99,7 +100,7 @@ pub agrees-sym : {s g : Station} → Agrees s g → Agrees g s
 agrees-sym h = record { table = sym (h .table); held = same-sym (h .held) }
 
 pub agrees-next : {s g e : Station} → Agrees s g → Agrees g e → Agrees s e
-agrees-next h k = record { table = h .table ∙ k .table; held = next (h .held) (k .held) }
+agrees-next h h' = record { table = h .table ∙ h' .table; held = next (h .held) (h' .held) }
 
 -- they have equal books, so they answer alike
 pub books-agree : {s g : Station} → Agrees s g → books s ≡ books g
@@ -113,17 +114,17 @@ books-agree {s} {g} h =
     }
 
 -- with the circuits alone in another order
-sound-same : {t : Table} {l m : List Circuit} → Same l m → Sound (record { table = t; held = l }) → Sound (record { table = t; held = m })
+sound-same : {t : Table} {l m : List Circuit} → Same l m → SoundStation (record { table = t; held = l }) → SoundStation (record { table = t; held = m })
 sound-same {t} {l} {m} h o =
     record {
       table = o .table;
-      few = subst (λ (n : ℕ). n ≤ 64) (count-same h) (o .few);
+      few = subst (λ (n : ℕ). n ≤ mostCircuits) (count-same h) (o .few);
       each = all-same (CircuitFits t) h (o .each);
       differ = differ-same h (o .differ);
       within = λ i p. subst (λ (n : ℕ). n ≤ capacityOf t i) (usage-same h i) (o .within i p);
     }
 
 -- where one is sound, so is the other
-pub sound-agree : {s g : Station} → Agrees s g → Sound s → Sound g
+pub sound-agree : {s g : Station} → Agrees s g → SoundStation s → SoundStation g
 sound-agree {s} {g} h o =
-    subst (λ (t : Table). Sound (record { table = t; held = g .held })) (h .table) (sound-same (h .held) o)
+    subst (λ (t : Table). SoundStation (record { table = t; held = g .held })) (h .table) (sound-same (h .held) o)

@@ -8,8 +8,9 @@ use mathlib.Core.List.{List, [], _++_}
 use native.Mathlib.Omega.{arith}
 use lib.ListN.{length, getD, drop}
 use borrow.Author.Tests.{le-leb, lt-leb, le-ltb, lt-ltb}
-use Rattle.area.specs.declared.Reading.{Reading}
-use Rattle.area.specs.declared.Reading.the-variants.{Refused, Value}
+use Rattle.area.specs.Layout.{areaWords, mostCircuits}
+use Rattle.area.specs.declared.ValueAnswer.{ValueAnswer}
+use Rattle.area.specs.declared.ValueAnswer.the-variants.{Refused, Value}
 use Rattle.area.specs.Station.{heldIn, station, tableIn}
 use Rattle.area.specs.Held.{numberAt, numbersFrom, ListsHeld}
 use Rattle.area.specs.Formed.{WellFormed, wellFormed}
@@ -17,6 +18,7 @@ use Rattle.area.specs.Refusals.{Reply, refuses, grants, Answered}
 use Rattle.area.specs.Checks.{checked}
 use Rattle.area.specs.Reads.{listChecks, listAnswer, listed, countOf, bufferAfter, listRules, ListMeans, freeAnswer}
 use Rattle.area.specs.FreeIn.{freeIn}
+use Rattle.network.specs.Limits.{mostLinks}
 use Rattle.network.proofs.Tests.{unfailing}
 use Rattle.network.proofs.Stored.{from-length}
 use Rattle.area.proofs.Checks.{checked-made, Tested, tests-not, tests-short, checked-answers}
@@ -24,23 +26,23 @@ use Rattle.area.proofs.Found.{held-length, listing-means}
 use Rattle.area.proofs.Formed.{formed-says, formed-test}
 
 -- the counts that the words 1 and 2 hold
-pub links-few : (w : List ℕ) → WellFormed w → getD w 1 0 ≤ 256
+pub links-few : (w : List ℕ) → WellFormed w → getD w 1 0 ≤ mostLinks
 unfolding station tableIn
 links-few w h = h .sound .table .links-most
 
-pub held-few : (w : List ℕ) → WellFormed w → getD w 2 0 ≤ 64
+pub held-few : (w : List ℕ) → WellFormed w → getD w 2 0 ≤ mostCircuits
 unfolding station
 held-few w h = omega (arith, held-length w (getD w 2 0), h .sound .few)
 
 -- the same where the test has passed
 module _ (w : List ℕ) (formed : wellFormed w ≡ true) where
-  pub formed-long : 3459 ≤ length w
+  pub formed-long : areaWords ≤ length w
   formed-long = formed-says w formed .long
 
-  pub formed-links : getD w 1 0 ≤ 256
+  pub formed-links : getD w 1 0 ≤ mostLinks
   formed-links = links-few w (formed-says w formed)
 
-  pub formed-held : getD w 2 0 ≤ 64
+  pub formed-held : getD w 2 0 ≤ mostCircuits
   formed-held = held-few w (formed-says w formed)
 
 -- ---- listing, into a buffer l
@@ -63,14 +65,14 @@ module _ (w l : List ℕ) where
       (grants (numbersFrom w 0 (heldIn w)))
       (λ p. (tt, listing-means w (heldIn w) (unfailing (wellFormed w) (formed-says w) (formed-test w) (p .0) .sound .differ)))
 
-  -- what the contract says of an answer x and a buffer l'
-  abbrev pub ListedAs : Reading → List ℕ → Type 0
-  ListedAs x l' = (x ≡ listAnswer w (length l)) × ((l' ≡ listed w l) × ListMeans w l x l')
+  -- what the contract says of an answer `said` and a buffer l'
+  abbrev pub ListedAs : ValueAnswer → List ℕ → Type 0
+  ListedAs said l' = (said ≡ listAnswer w (length l)) × ((l' ≡ listed w l) × ListMeans w l said l')
 
   -- it holds of the call's own
-  pub listed-as : (x : Reading) → x ≡ listAnswer w (length l) → (l' : List ℕ) → l' ≡ listed w l → ListedAs x l'
+  pub listed-as : (said : ValueAnswer) → said ≡ listAnswer w (length l) → (l' : List ℕ) → l' ≡ listed w l → ListedAs said l'
   unfolding listAnswer listed
-  listed-as x answers l' holds = (
+  listed-as said answers l' holds = (
     answers,
     (
       holds,

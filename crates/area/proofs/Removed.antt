@@ -11,8 +11,10 @@ use native.Mathlib.Omega.{arith}
 use lib.ListN.{length, getD, set, length-set}
 use lib.Seq.{getD-set-same, getD-set-other}
 use borrow.Author.Tests.{ltb-true, eq-eqb, ne-eqb}
+use Rattle.network.specs.Limits.{mostLinks}
 use Rattle.network.specs.Lists.{Distinct}
 use Rattle.network.proofs.Tests.{by-eq}
+use Rattle.area.specs.Layout.{areaWords, circuitWords, mostCircuits}
 use Rattle.area.specs.Station.{Circuit, place, circuitOf, circuitAt, circuits, station}
 use Rattle.area.specs.Books.{numbers, holds}
 use Rattle.area.specs.Held.{numberAt, foundAt}
@@ -24,66 +26,66 @@ use Rattle.area.proofs.StationWords.{circuit-same, circuits-same, table
 closed-long : (w : List ℕ) (a n : ℕ) → length (closed w a n) ≡ length w
 unfolding closed
 closed-long w a zero = refl
-closed-long w a (suc n) = closed-long (set w a (getD w (a + 34) 0)) (suc a) n ∙ length-set w a (getD w (a + 34) 0)
+closed-long w a (suc n) = closed-long (set w a (getD w (a + circuitWords) 0)) (suc a) n ∙ length-set w a (getD w (a + circuitWords) 0)
 
 closed-before : (w : List ℕ) (a n i : ℕ) → i < a → getD (closed w a n) i 0 ≡ getD w i 0
 unfolding closed
 closed-before w a zero i low = refl
 closed-before w a (suc n) i low =
-    closed-before (set w a (getD w (a + 34) 0)) (suc a) n i (omega arith) ∙ getD-set-other w a i (getD w (a + 34) 0) 0 (omega arith)
+    closed-before (set w a (getD w (a + circuitWords) 0)) (suc a) n i (omega arith) ∙ getD-set-other w a i (getD w (a + circuitWords) 0) 0 (omega arith)
 
 closed-past : (w : List ℕ) (a n i : ℕ) → a + n ≤ i → getD (closed w a n) i 0 ≡ getD w i 0
 unfolding closed
 closed-past w a zero i high = refl
 closed-past w a (suc n) i high =
-    closed-past (set w a (getD w (a + 34) 0)) (suc a) n i (omega arith) ∙ getD-set-other w a i (getD w (a + 34) 0) 0 (omega arith)
+    closed-past (set w a (getD w (a + circuitWords) 0)) (suc a) n i (omega arith) ∙ getD-set-other w a i (getD w (a + circuitWords) 0) 0 (omega arith)
 
--- a word that is overwritten is the word 34 places after: that one is read before it is overwritten itself
-closed-in : (w : List ℕ) (a n i : ℕ) → a + n + 34 ≤ length w → a ≤ i → i < a + n → getD (closed w a n) i 0 ≡ getD w (i + 34) 0
+-- a word that is overwritten is the word a circuit after it: that one is read before it is overwritten itself
+closed-in : (w : List ℕ) (a n i : ℕ) → a + n + circuitWords ≤ length w → a ≤ i → i < a + n → getD (closed w a n) i 0 ≡ getD w (i + circuitWords) 0
 unfolding closed
 closed-in w a zero i fits from low = absurd (omega arith)
 closed-in w a (suc n) i fits from low =
     by-eq i a
     (λ e.
-    closed-before (set w a (getD w (a + 34) 0)) (suc a) n i (omega arith)
-    ∙ rw e (getD-set-same w a (getD w (a + 34) 0) 0 (omega arith)))
+    closed-before (set w a (getD w (a + circuitWords) 0)) (suc a) n i (omega arith)
+    ∙ rw e (getD-set-same w a (getD w (a + circuitWords) 0) 0 (omega arith)))
     (λ e.
-    closed-in (set w a (getD w (a + 34) 0)) (suc a) n i (rw length-set (omega arith)) (omega arith) (omega arith)
-    ∙ getD-set-other w a (i + 34) (getD w (a + 34) 0) 0 (omega arith))
+    closed-in (set w a (getD w (a + circuitWords) 0)) (suc a) n i (rw length-set (omega arith)) (omega arith) (omega arith)
+    ∙ getD-set-other w a (i + circuitWords) (getD w (a + circuitWords) 0) 0 (omega arith))
 
 -- ---- a circuit less
 pub removed-long : (w : List ℕ) (j : ℕ) → length (removed w j) ≡ length w
 unfolding removed
 removed-long w j =
-    length-set (closed w (place j) (34 * (getD w 2 0 - 1 - j))) 2 _
-    ∙ closed-long w (place j) (34 * (getD w 2 0 - 1 - j))
+    length-set (closed w (place j) (circuitWords * (getD w 2 0 - 1 - j))) 2 _
+    ∙ closed-long w (place j) (circuitWords * (getD w 2 0 - 1 - j))
 
 removed-before : (w : List ℕ) (j i : ℕ) → i < place j → i ≢ 2 → getD (removed w j) i 0 ≡ getD w i 0
 unfolding removed
 removed-before w j i low other =
-    getD-set-other (closed w (place j) (34 * (getD w 2 0 - 1 - j))) 2 i _ 0 other
-    ∙ closed-before w (place j) (34 * (getD w 2 0 - 1 - j)) i low
+    getD-set-other (closed w (place j) (circuitWords * (getD w 2 0 - 1 - j))) 2 i _ 0 other
+    ∙ closed-before w (place j) (circuitWords * (getD w 2 0 - 1 - j)) i low
 
-removed-in : (w : List ℕ) (j i : ℕ) → j < getD w 2 0 → place (getD w 2 0) ≤ length w → place j ≤ i → i + 34 < place (getD w 2 0)
-    → getD (removed w j) i 0 ≡ getD w (i + 34) 0
+removed-in : (w : List ℕ) (j i : ℕ) → j < getD w 2 0 → place (getD w 2 0) ≤ length w → place j ≤ i → i + circuitWords < place (getD w 2 0)
+    → getD (removed w j) i 0 ≡ getD w (i + circuitWords) 0
 unfolding removed
 removed-in w j i held fits from low =
-    getD-set-other (closed w (place j) (34 * (getD w 2 0 - 1 - j))) 2 i _ 0 (omega arith)
-    ∙ closed-in w (place j) (34 * (getD w 2 0 - 1 - j)) i (omega arith) from (omega arith)
+    getD-set-other (closed w (place j) (circuitWords * (getD w 2 0 - 1 - j))) 2 i _ 0 (omega arith)
+    ∙ closed-in w (place j) (circuitWords * (getD w 2 0 - 1 - j)) i (omega arith) from (omega arith)
 
-removed-past : (w : List ℕ) (j i : ℕ) → j < getD w 2 0 → place (getD w 2 0) ≤ i + 34 → place j ≤ i → getD (removed w j) i 0 ≡ getD w i 0
+removed-past : (w : List ℕ) (j i : ℕ) → j < getD w 2 0 → place (getD w 2 0) ≤ i + circuitWords → place j ≤ i → getD (removed w j) i 0 ≡ getD w i 0
 unfolding removed
 removed-past w j i held high from =
-    getD-set-other (closed w (place j) (34 * (getD w 2 0 - 1 - j))) 2 i _ 0 (omega arith)
-    ∙ closed-past w (place j) (34 * (getD w 2 0 - 1 - j)) i (omega arith)
+    getD-set-other (closed w (place j) (circuitWords * (getD w 2 0 - 1 - j))) 2 i _ 0 (omega arith)
+    ∙ closed-past w (place j) (circuitWords * (getD w 2 0 - 1 - j)) i (omega arith)
 
 removed-count : (w : List ℕ) (j : ℕ) → 3 ≤ length w → getD (removed w j) 2 0 ≡ getD w 2 0 - 1
 unfolding removed
 removed-count w j fits =
-    getD-set-same (closed w (place j) (34 * (getD w 2 0 - 1 - j))) 2 (getD w 2 0 - 1) 0 (rw closed-long (omega arith))
+    getD-set-same (closed w (place j) (circuitWords * (getD w 2 0 - 1 - j))) 2 (getD w 2 0 - 1) 0 (rw closed-long (omega arith))
 
 -- a release leaves n, m, the links and the words past the circuits
-pub removed-untouched : (w : List ℕ) (j : ℕ) → getD w 2 0 ≤ 64 → j < getD w 2 0 → Untouched w (removed w j)
+pub removed-untouched : (w : List ℕ) (j : ℕ) → getD w 2 0 ≤ mostCircuits → j < getD w 2 0 → Untouched w (removed w j)
 removed-untouched w j room held =
     record {
       nodes = removed-before w j 0 (omega arith) (omega arith);
@@ -131,7 +133,7 @@ module _ (w : List ℕ) (k j : ℕ) (held : j < getD w 2 0) (fits : place (getD 
       (ap (circuits (removed w j)) last ∙ rest-same (getD w 2 0 - 1 - j) (omega arith) ∙ ap (λ (m : ℕ). without k (circuits w m)) all)
 
 -- the area with the found circuit less is the station without the number
-pub removed-station : (w : List ℕ) (k : ℕ) → 3459 ≤ length w → getD w 1 0 ≤ 256 → getD w 2 0 ≤ 64
+pub removed-station : (w : List ℕ) (k : ℕ) → areaWords ≤ length w → getD w 1 0 ≤ mostLinks → getD w 2 0 ≤ mostCircuits
     → Distinct (numbers (station w .held)) → holds (station w .held) k ≡ true
     → station (removed w (foundAt w (getD w 2 0) k)) ≡ withoutNumber (station w) k
 unfolding station

@@ -7,14 +7,16 @@ use Prim.Native.Nat.{ℕ, zero, suc, _+_, _*_, _≤_, _<_}
 use native.Mathlib.Omega.{arith}
 use lib.ListN.{length, getD}
 use lib.Seq.{getD-append-add}
+use Rattle.network.specs.Limits.{linkWords, mostLinks}
+use Rattle.area.specs.Layout.{circuitWords, firstLink}
 use Rattle.area.specs.Station.{Circuit, wordsAt, place, circuitOf, circuitAt, circuits, tableIn}
 use Rattle.area.specs.Moves.{wordsOf, Untouched}
 use Rattle.area.proofs.WordsAt.{words-same, words-list}
 
 -- equal words give equal circuits
-pub circuit-same : (w w' : List ℕ) (j j' : ℕ) → ((i : ℕ) → i < 34 → getD w' (place j' + i) 0 ≡ getD w (place j + i) 0)
+pub circuit-same : (w w' : List ℕ) (j j' : ℕ) → ((i : ℕ) → i < circuitWords → getD w' (place j' + i) 0 ≡ getD w (place j + i) 0)
     → circuitAt w' j' ≡ circuitAt w j
-circuit-same w w' j j' h = ap circuitOf (words-same w w' (place j) (place j') 34 h)
+circuit-same w w' j j' h = ap circuitOf (words-same w w' (place j) (place j') circuitWords h)
 
 pub circuits-same : (w w' : List ℕ) (n : ℕ) → ((j : ℕ) → j < n → circuitAt w' j ≡ circuitAt w j) → circuits w' n ≡ circuits w n
 circuits-same w w' zero h = refl
@@ -31,9 +33,9 @@ circuit-read v c h = λ t. record { number = h 0 (omega arith) t; units = h 1 (o
         (words-list v 3 (c .path) λ i low. h (3 + i) (omega arith) ∙ getD-append-add (c .number ∷ c .units ∷ length (c .path) ∷ []) (c .path) i 0)
 
 -- a store that leaves the table's words leaves the table
-pub table-untouched : (w w' : List ℕ) → Untouched w w' → getD w 1 0 ≤ 256 → tableIn w' ≡ tableIn w
+pub table-untouched : (w w' : List ℕ) → Untouched w w' → getD w 1 0 ≤ mostLinks → tableIn w' ≡ tableIn w
 unfolding tableIn
 table-untouched w w' same few = λ t. record { nodes = same .nodes t; links = same .links t; words = words t }
   where
-    words : wordsAt w' 3 (5 * getD w' 1 0) ≡ wordsAt w 3 (5 * getD w 1 0)
-    words = rw (same .links) (words-same w w' 3 3 (5 * getD w 1 0) λ i low. same .table (3 + i) (omega arith) (omega arith))
+    words : wordsAt w' firstLink (linkWords * getD w' 1 0) ≡ wordsAt w firstLink (linkWords * getD w 1 0)
+    words = rw (same .links) (words-same w w' 3 3 (linkWords * getD w 1 0) λ i low. same .table (3 + i) (omega arith) (omega arith))

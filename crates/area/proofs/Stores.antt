@@ -8,12 +8,13 @@ use native.Mathlib.Numerals.{add-one, towards-suc}
 use native.Mathlib.Omega.{arith}
 use lib.ListN.{length, getD, set}
 use lib.Seq.{sets}
+use Rattle.area.specs.Layout.{circuitWords}
 use Rattle.area.specs.Station.{Circuit, place}
 use Rattle.area.specs.Moves.{added, closed, removed}
 
 -- ---- words moved up by a circuit's length
 -- the loop of `store::close` overwrites word i
-pub close-turn : (w : List ℕ) (i end : ℕ) → i < end → closed (set w i (getD w (i + 34) 0)) (i + 1) (end - (i + 1)) ≡ closed w i (end - i)
+pub close-turn : (w : List ℕ) (i end : ℕ) → i < end → closed (set w i (getD w (i + circuitWords) 0)) (i + 1) (end - (i + 1)) ≡ closed w i (end - i)
 unfolding closed
 close-turn w i end h =
     let e : end - i ≡ suc (end - (i + 1)) = omega arith in
@@ -38,5 +39,5 @@ pub removed-words : (w : List ℕ) (j at end h : ℕ) → at ≡ place j → end
     → set (closed w at (end - at)) 2 (getD w 2 0 - 1) ≡ removed w j
 unfolding removed
 removed-words w j at end h e e' same low =
-    let n : end - at ≡ 34 * (getD w 2 0 - 1 - j) = omega arith in
+    let n : end - at ≡ circuitWords * (getD w 2 0 - 1 - j) = omega arith in
     rw (n, e)

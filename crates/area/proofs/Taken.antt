@@ -29,28 +29,28 @@ less-other : (u i k : ℕ) (free : List ℕ) → (k ≡ i → ⊥) → getD (les
 less-other u i k free other = getD-set-other free i k (getD free i 0 - u) 0 other
 
 -- ---- the turns of the loop: what is still to do comes to the same
-module _ (u : ℕ) (p free : List ℕ) (k i : ℕ) where
+module _ (u : ℕ) (p free : List ℕ) (j i : ℕ) where
   -- a link with enough
-  pub taken-turn : k < length p → i ≡ getD p k 0 → taken u (drop (k + 1) p) (less u i free) ≡ taken u (drop k p) free
+  pub taken-turn : j < length p → i ≡ getD p j 0 → taken u (drop (j + 1) p) (less u i free) ≡ taken u (drop j p) free
   unfolding taken
-  taken-turn low here = rw (add-one, drop-cons p k 0 low, here)
+  taken-turn low here = rw (add-one, drop-cons p j 0 low, here)
 
-  pub enough-turn : k < length p → i ≡ getD p k 0 → u ≤ getD free i 0 → enough u (drop (k + 1) p) (less u i free) ≡ enough u (drop k p) free
+  pub enough-turn : j < length p → i ≡ getD p j 0 → u ≤ getD free i 0 → enough u (drop (j + 1) p) (less u i free) ≡ enough u (drop j p) free
   unfolding enough
-  enough-turn low here fits = rw (add-one, drop-cons p k 0 low, ← here, le-leb u (getD free i 0) fits)
+  enough-turn low here fits = rw (add-one, drop-cons p j 0 low, ← here, le-leb u (getD free i 0) fits)
 
   -- a link with too few
-  pub enough-short : k < length p → i ≡ getD p k 0 → getD free i 0 < u → false ≡ enough u (drop k p) free
+  pub enough-short : j < length p → i ≡ getD p j 0 → getD free i 0 < u → false ≡ enough u (drop j p) free
   unfolding enough
-  enough-short low here short = rw (drop-cons p k 0 low, ← here, lt-leb u (getD free i 0) short)
+  enough-short low here short = rw (drop-cons p j 0 low, ← here, lt-leb u (getD free i 0) short)
 
-module _ (u : ℕ) (p free : List ℕ) (k : ℕ) where
+module _ (u : ℕ) (p free : List ℕ) (j : ℕ) where
   -- after the last link
-  pub enough-end : length p ≤ k → true ≡ enough u (drop k p) free
+  pub enough-end : length p ≤ j → true ≡ enough u (drop j p) free
   unfolding enough
   enough-end high = rw (drop-of-length-le p high)
 
-  pub taken-end : length p ≤ k → free ≡ taken u (drop k p) free
+  pub taken-end : length p ≤ j → free ≡ taken u (drop j p) free
   unfolding taken
   taken-end high = rw (drop-of-length-le p high)
 

@@ -7,11 +7,14 @@ use mathlib.Core.Bool.{Bool, true, false, not, _&&_}
 use mathlib.Core.List.{List, [], _∷_}
 use lib.Dec.{ltb, leb, eqb}
 use lib.ListN.{length}
+use Rattle.network.specs.Limits.{leastNodes, leastPathLinks, leastUnits, mostCapacity, mostCost, mostDelay, mostLinks, mostNodes, mostPathLinks, mostUnits}
+use Rattle.network.specs.Ranges.{inRange}
 use Rattle.network.specs.Lists.{All, Distinct}
 use Rattle.network.specs.Loops.{every}
 use Rattle.network.specs.NodeSet.{member, inserted}
 use Rattle.network.specs.Net.{IsPath}
 use Rattle.network.specs.Words.{field}
+use Rattle.area.specs.Layout.{areaWords, leastNumber, mostCircuits, mostNumber}
 use Rattle.area.specs.Station.{Table, Circuit, Station, tailOf, headOf, delayOf, costOf, capacityOf, station}
 use Rattle.area.specs.Books.{usage, numbers, holds, whole}
 
@@ -20,14 +23,14 @@ pub record LinkFits (t : Table) (i : ℕ) : Type 0 where
   pub from : tailOf t i < t .nodes
   pub to : headOf t i < t .nodes
   pub apart : tailOf t i ≡ headOf t i → ⊥
-  pub delay : delayOf t i ≤ 1000000
-  pub cost : costOf t i ≤ 1000000
-  pub capacity : capacityOf t i ≤ 65535
+  pub delay : delayOf t i ≤ mostDelay
+  pub cost : costOf t i ≤ mostCost
+  pub capacity : capacityOf t i ≤ mostCapacity
 
 pub record TableFits (t : Table) : Type 0 where
-  pub nodes-least : 2 ≤ t .nodes
-  pub nodes-most : t .nodes ≤ 32
-  pub links-most : t .links ≤ 256
+  pub nodes-least : leastNodes ≤ t .nodes
+  pub nodes-most : t .nodes ≤ mostNodes
+  pub links-most : t .links ≤ mostLinks
   pub each : (i : ℕ) → i < t .links → LinkFits t i
 
 -- p is a path of the table, between some two nodes
@@ -35,17 +38,17 @@ abbrev pub PathOf : Table → List ℕ → Type 0
 PathOf t p = (s : ℕ) × (e : ℕ) × IsPath (whole t) s e p
 
 pub record CircuitFits (t : Table) (c : Circuit) : Type 0 where
-  pub number-least : 1 ≤ c .number
-  pub number-most : c .number ≤ 65535
-  pub units-least : 1 ≤ c .units
-  pub units-most : c .units ≤ 65535
-  pub links-least : 1 ≤ length (c .path)
-  pub links-most : length (c .path) ≤ 31
+  pub number-least : leastNumber ≤ c .number
+  pub number-most : c .number ≤ mostNumber
+  pub units-least : leastUnits ≤ c .units
+  pub units-most : c .units ≤ mostUnits
+  pub links-least : leastPathLinks ≤ length (c .path)
+  pub links-most : length (c .path) ≤ mostPathLinks
   pub path : PathOf t (c .path)
 
-pub record Sound (s : Station) : Type 0 where
+pub record SoundStation (s : Station) : Type 0 where
   pub table : TableFits (s .table)
-  pub few : length (s .held) ≤ 64
+  pub few : length (s .held) ≤ mostCircuits
   pub each : All (CircuitFits (s .table)) (s .held)
   -- circuit numbers differ
   pub differ : Distinct (numbers (s .held))
@@ -53,17 +56,14 @@ pub record Sound (s : Station) : Type 0 where
   pub within : (i : ℕ) → i < s .table .links → usage (s .held) i ≤ capacityOf (s .table) i
 
 pub record WellFormed (w : List ℕ) : Type 0 where
-  pub long : 3459 ≤ length w
-  pub sound : Sound (station w)
+  pub long : areaWords ≤ length w
+  pub sound : SoundStation (station w)
 
 -- ---- the test
-abbrev pub inRange : ℕ → ℕ → ℕ → Bool
-inRange low high x = leb low x && leb x high
-
 unfoldable pub linkFits : Table → ℕ → Bool
 linkFits t i =
     ltb (tailOf t i) (t .nodes) && (ltb (headOf t i) (t .nodes) && (not (eqb (tailOf t i) (headOf t i))
-    && (leb (delayOf t i) 1000000 && (leb (costOf t i) 1000000 && leb (capacityOf t i) 65535))))
+    && (leb (delayOf t i) mostDelay && (leb (costOf t i) mostCost && leb (capacityOf t i) mostCapacity))))
 
 unfoldable pub linksFit : Table → Bool
 unfolding linkFits every
@@ -71,7 +71,7 @@ linksFit t = every (linkFits t) (t .links)
 
 unfoldable pub tableFits : Table → Bool
 unfolding linksFit
-tableFits t = inRange 2 32 (t .nodes) && (leb (t .links) 256 && linksFit t)
+tableFits t = inRange leastNodes mostNodes (t .nodes) && (leb (t .links) mostLinks && linksFit t)
 
 -- The tests of circuits ask for the links alone: m of them, with these words.
 -- Link i goes on from node v, and to no node of the set.
@@ -93,7 +93,7 @@ pathFits m words (i ∷ p) = onward m words (field words i 0) (inserted 0 (field
 unfoldable pub circuitFits : ℕ → List ℕ → Circuit → Bool
 unfolding pathFits
 circuitFits m words c =
-    inRange 1 65535 (c .number) && (inRange 1 65535 (c .units) && (inRange 1 31 (length (c .path)) && pathFits m words (c .path)))
+    inRange leastNumber mostNumber (c .number) && (inRange leastUnits mostUnits (c .units) && (inRange leastPathLinks mostPathLinks (length (c .path)) && pathFits m words (c .path)))
 
 -- each circuit fits, and its number is none of those before it
 unfoldable pub heldFit : ℕ → List ℕ → List Circuit → Bool
@@ -108,9 +108,9 @@ unitsFit m words cs = every (λ i. leb (usage cs i) (field words i 4)) m
 unfoldable pub sound : Station → Bool
 unfolding tableFits heldFit unitsFit
 sound s =
-    tableFits (s .table) && (leb (length (s .held)) 64 && (heldFit (s .table .links) (s .table .words) (s .held)
+    tableFits (s .table) && (leb (length (s .held)) mostCircuits && (heldFit (s .table .links) (s .table .words) (s .held)
     && unitsFit (s .table .links) (s .table .words) (s .held)))
 
 unfoldable pub wellFormed : List ℕ → Bool
 unfolding station sound
-wellFormed w = leb 3459 (length w) && sound (station w)
+wellFormed w = leb areaWords (length w) && sound (station w)

@@ -5,8 +5,8 @@ use mathlib.Core.Path.{_≡_}
 use mathlib.Core.List.{List, [], _∷_, _++_}
 use lib.Dec.{ltb, leb}
 use lib.ListN.{length, drop}
-use Rattle.area.specs.declared.Reading.{Reading}
-use Rattle.area.specs.declared.Reading.the-variants.{Refused, Value}
+use Rattle.area.specs.declared.ValueAnswer.{ValueAnswer}
+use Rattle.area.specs.declared.ValueAnswer.the-variants.{Refused, Value}
 use Rattle.area.specs.Station.{station, linksIn, heldIn}
 use Rattle.area.specs.Books.{free}
 use Rattle.area.specs.Held.{numbersFrom, ListsHeld}
@@ -16,12 +16,12 @@ use Rattle.area.specs.Checks.{Check, _unless_, checked}
 
 -- ---- the listing
 abbrev pub listChecks : List ℕ → ℕ → List Check
-listChecks w room = (5 unless wellFormed w) ∷ (14 unless leb (heldIn w) room) ∷ []
+listChecks w buffer = (5 unless wellFormed w) ∷ (14 unless leb (heldIn w) buffer) ∷ []
 
 -- h, or the refusal's number
-unfoldable pub listAnswer : List ℕ → ℕ → Reading
+unfoldable pub listAnswer : List ℕ → ℕ → ValueAnswer
 unfolding wellFormed
-listAnswer w room = checked Refused (listChecks w room) (Value (heldIn w))
+listAnswer w buffer = checked Refused (listChecks w buffer) (Value (heldIn w))
 
 -- the h numbers in the first words; the words past them keep theirs
 unfoldable pub listed : List ℕ → List ℕ → List ℕ
@@ -31,7 +31,7 @@ listed w l = checked (λ _. l) (listChecks w (length l)) (numbersFrom w 0 (heldI
 -- ---- what a listing means, with no algorithm
 -- the answer and the buffer after, for a reply that grants these numbers: how many they are, and the numbers in the first
 -- words, where the words past them keep theirs
-abbrev pub countOf : Reply (List ℕ) → Reading
+abbrev pub countOf : Reply (List ℕ) → ValueAnswer
 countOf (refuses k) = Refused k
 countOf (grants ns) = Value (length ns)
 
@@ -40,14 +40,14 @@ bufferAfter (refuses k) l = l
 bufferAfter (grants ns) l = ns ++ drop (length ns) l
 
 abbrev pub listRules : List ℕ → ℕ → List Rule
-listRules w room = (5 when (WellFormed w → ⊥)) ∷ (14 when room < length (station w .held)) ∷ []
+listRules w buffer = (5 when (WellFormed w → ⊥)) ∷ (14 when buffer < length (station w .held)) ∷ []
 
--- x is what a listing into the buffer l answers, and l' what it leaves there: there is a reply that the rules allow, the
+-- `said` is what a listing into the buffer l answers, and l' what it leaves there: there is a reply that the rules allow, the
 -- held circuits' numbers in any order, and these are its answer and its buffer
-pub record ListMeans (w l : List ℕ) (x : Reading) (l' : List ℕ) : Type 0 where
+pub record ListMeans (w l : List ℕ) (said : ValueAnswer) (l' : List ℕ) : Type 0 where
   pub reply : Reply (List ℕ)
   pub allowed : Answered (ListsHeld (station w .held)) (listRules w (length l)) reply
-  pub answer : x ≡ countOf reply
+  pub answer : said ≡ countOf reply
   pub buffer : l' ≡ bufferAfter reply l
 
 -- ---- free units
@@ -55,6 +55,6 @@ abbrev pub freeChecks : List ℕ → ℕ → List Check
 freeChecks w i = (5 unless wellFormed w) ∷ (15 unless ltb i (linksIn w)) ∷ []
 
 -- the link's free units, or the refusal's number
-unfoldable pub freeAnswer : List ℕ → ℕ → Reading
+unfoldable pub freeAnswer : List ℕ → ℕ → ValueAnswer
 unfolding wellFormed station
 freeAnswer w i = checked Refused (freeChecks w i) (Value (free (station w) i))

@@ -4,7 +4,9 @@
 use Prim.Native.Nat.{ℕ, zero, suc, _+_, _*_}
 use mathlib.Core.List.{List, [], _∷_}
 use lib.ListN.{getD}
+use Rattle.network.specs.Limits.{linkWords}
 use Rattle.network.specs.Words.{field}
+use Rattle.area.specs.Layout.{circuitWords, firstCircuit, firstLink}
 
 -- what loading fixes: the nodes, how many links, and the links' words
 pub record Table : Type 0 where
@@ -43,16 +45,16 @@ abbrev pub wordsAt : List ℕ → ℕ → ℕ → List ℕ
 wordsAt w a zero = []
 wordsAt w a (suc n) = getD w a 0 ∷ wordsAt w (suc a) n
 
--- circuits begin at word 1,283, 34 words each
+-- where circuit j begins
 abbrev pub place : ℕ → ℕ
-place j = 1283 + 34 * j
+place j = firstCircuit + circuitWords * j
 
 -- a circuit's words: number, units, link count, then the path
 unfoldable pub circuitOf : List ℕ → Circuit
 circuitOf c = record { number = getD c 0 0; units = getD c 1 0; path = wordsAt c 3 (getD c 2 0) }
 
 abbrev pub circuitAt : List ℕ → ℕ → Circuit
-circuitAt w j = circuitOf (wordsAt w (place j) 34)
+circuitAt w j = circuitOf (wordsAt w (place j) circuitWords)
 
 -- the first h circuits, the last one first, so that an admission puts one in front
 abbrev pub circuits : List ℕ → ℕ → List Circuit
@@ -70,7 +72,7 @@ abbrev pub heldIn : List ℕ → ℕ
 heldIn w = getD w 2 0
 
 unfoldable pub tableIn : List ℕ → Table
-tableIn w = record { nodes = nodesIn w; links = linksIn w; words = wordsAt w 3 (5 * linksIn w) }
+tableIn w = record { nodes = nodesIn w; links = linksIn w; words = wordsAt w firstLink (linkWords * linksIn w) }
 
 unfoldable pub station : List ℕ → Station
 station w = record { table = tableIn w; held = circuits w (heldIn w) }

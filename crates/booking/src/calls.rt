@@ -5,8 +5,8 @@ ghost use Rattle.rules.specs.Replies.{answerOf, pathAfter, releaseAnswerOf};
 ghost use Rattle.rules.specs.Calls.{admission, booked, release, cleared};
 ghost use Rattle.rules.specs.Meaning.{AdmissionMeans, ReleaseMeans};
 use crate::checks::refusal;
+use crate::find_path::find_path;
 use crate::request::number_fits;
-use crate::seek::seek;
 use links::link;
 use network::Request;
 use rules::ReleaseAnswer;
@@ -15,9 +15,6 @@ use station::check::check;
 use station::held::find;
 use station::layout;
 use station::store;
-
-// The most circuits that may be held.
-const CIRCUITS: u32 = 64;
 
 // 5, 6, 7, 8, 11, 12, 9 and 10 in this order; else it answers as a quote does and adds the circuit. Work memory is open
 // after.
@@ -43,11 +40,11 @@ pub fn admit(
     if !number_fits(area, circuit) {
         return RequestAnswer::Refused(11);
     }
-    if CIRCUITS <= area[layout::HELD] {
+    if layout::MOST_CIRCUITS <= link::wide(area[layout::HELD]) {
         return RequestAnswer::Refused(12);
     }
     let free = c.free;
-    let answer = seek(area, &free, work, path, r);
+    let answer = find_path(area, &free, work, path, r);
     let RequestAnswer::Granted(g) = answer else {
         return answer;
     };

@@ -5,12 +5,9 @@ ghost use Rattle.area.specs.Checks.{firstFailing};
 ghost use Rattle.rules.specs.Calls.{quoteChecks};
 use crate::request::request_fits;
 use network::Request;
+use network::limits::PATH_WORDS;
+use network::limits::WORK_WORDS;
 use station::layout;
-
-// The least lengths of work memory and of a path buffer.
-const WORK: usize = 16384;
-
-const PATH: usize = 31;
 
 // The first number of 5, 6, 7 and 8 that applies, or 0 where none does. `formed` says whether the area is well formed;
 // `work` and `path` are the lengths of work memory and path buffer. Both callers have `formed` from the check of the
@@ -22,10 +19,10 @@ pub fn refusal(formed: bool, area: &[u32], work: usize, path: usize, r: Request)
     if !formed {
         return 5;
     }
-    if work < WORK {
+    if work < WORK_WORDS {
         return 6;
     }
-    if path < PATH {
+    if path < PATH_WORDS {
         return 7;
     }
     if !request_fits(area[layout::NODES], r) {

@@ -5,7 +5,7 @@ ghost use Rattle.rules.specs.Replies.{answerOf, pathAfter};
 ghost use Rattle.rules.specs.Calls.{quote};
 ghost use Rattle.rules.specs.Meaning.{QuoteMeans};
 use crate::checks::refusal;
-use crate::seek::seek;
+use crate::find_path::find_path;
 use network::Request;
 use rules::RequestAnswer;
 use station::check::check;
@@ -25,5 +25,5 @@ pub fn quote(area: &[u32], work: &mut [u32], path: &mut [u32], r: Request) -> Re
         return RequestAnswer::Refused(number);
     }
     let free = c.free;
-    seek(area, &free, work, path, r)
+    find_path(area, &free, work, path, r)
 }

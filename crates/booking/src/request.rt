@@ -6,10 +6,11 @@ ghost use Rattle.rules.specs.Requests.{requestFits};
 ghost use Rattle.rules.specs.Calls.{numberFits};
 ghost use Rattle.rules.specs.Meaning.{booksIn};
 use links::link;
+use links::range::in_range;
+use links::range::terms_fit;
 use network::Request;
 use station::held::find;
 use station::layout;
-use station::range::in_range;
 
 // Whether `r` is a request among `n` nodes.
 pub fn request_fits(n: u32, r: Request) -> bool
@@ -24,16 +25,7 @@ pub fn request_fits(n: u32, r: Request) -> bool
     if r.source == r.target {
         return false;
     }
-    if !in_range(1, 65535, r.units) {
-        return false;
-    }
-    if !in_range(1, 31000000, r.delay_bound) {
-        return false;
-    }
-    if !in_range(1, 31000000, r.cost_bound) {
-        return false;
-    }
-    in_range(1, 8, r.coefficient)
+    terms_fit(r.units, r.delay_bound, r.cost_bound, r.coefficient)
 }
 
 // Whether an admission may take this circuit number: it is in its range and not held. The area has passed its check.
@@ -41,7 +33,7 @@ pub fn number_fits(area: &[u32], number: u32) -> bool
     requires { ⌜ wellFormed (now area) ≡ true ⌝ }
     ensures { λ ok. ⌜ ok ≡ numberFits (booksIn (now (area .entry))) number ⌝ }
 {
-    if !in_range(1, 65535, number) {
+    if !in_range(layout::LEAST_NUMBER, layout::MOST_NUMBER, number) {
         return false;
     }
     let h = link::wide(area[layout::HELD]);

@@ -12,11 +12,12 @@ use Rattle.network.specs.Scale.{scaled}
 use Rattle.network.specs.Cut.{noted, follow}
 use Rattle.network.specs.Reduce.{problemOne, problemTwo}
 use Rattle.search.specs.ebf.Table.{cell, cells, filled, initialised, improved, relaxed, offered, column, round, rounds, ebf}
-use Rattle.search.specs.ebf.Trace.{trailBack, stepBack, traced}
+use Rattle.search.specs.ebf.Trace.{placeBack, stepBack, traced}
 use Rattle.search.specs.ebf.Solve.{pathIn, answerIn, solveIn, solve}
 use Rattle.search.specs.Distance.{spread, layer, distance}
 use Rattle.search.specs.Heuristic.{tried, search}
 use Rattle.search.specs.Result.{outcome}
+use Rattle.area.specs.Layout.{areaWords}
 use Rattle.area.specs.Station.{tableIn, circuitOf}
 use Rattle.area.specs.Order.{Same, next}
 use Rattle.area.specs.declared.Loading.the-variants.{Loaded}
@@ -32,14 +33,14 @@ use Rattle.call_list.proofs.Runs.{load-accepts, struck-calls, endOf, ru
 
 -- ---- from an area of zeros
 computed : (answers (areaLoaded blank 4 linksA) (calls false) ≡ expected) × (bookings (endOf false blank) ≡ held)
-unfolding calls rows pathGiven releaseGiven areaLoaded quote admission booked release cleared tableIn circuitOf outcome search tried solve solveIn answerIn pathIn ebf rounds round column offered relaxed improved initialised filled cell cells traced stepBack trailBack noted follow distance layer spread problemOne problemTwo scaled iter first
+unfolding calls rows pathGiven releaseGiven areaLoaded quote admission booked release cleared tableIn circuitOf outcome search tried solve solveIn answerIn pathIn ebf rounds round column offered relaxed improved initialised filled cell cells traced stepBack placeBack noted follow distance layer spread problemOne problemTwo scaled iter first
 computed = (refl, refl)
 
 blank-accepted : loadAnswer blank 4 linksA ≡ Loaded
-blank-accepted = load-accepts blank (omega (arith, length-replicate {A = ℕ} 3459 0))
+blank-accepted = load-accepts blank (omega (arith, length-replicate {A = ℕ} areaWords 0))
 
 -- ---- from any area that is long enough
-module _ (w : List ℕ) (long : 3459 ≤ length w) where
+module _ (w : List ℕ) (long : areaWords ≤ length w) where
   same : (answers (areaLoaded w 4 linksA) (calls false) ≡ remaining (none-struck (calls false)) (answers (areaLoaded blank 4 linksA) (calls false)))
       × Same (bookings (endOf false w)) (bookings (endOf false blank))
   same = third-demand 4 linksA blank blank-accepted (calls false) .struck w (load-accepts w long) (calls false) (none-struck (calls false))

@@ -7,60 +7,61 @@ use mathlib.Core.List.{List, [], _∷_, _++_}
 use native.Mathlib.Omega.{arith}
 use borrow.Author.Tests.{eq-eqb, ne-eqb}
 use lib.ListN.{length, getD, take, replicate}
+use Rattle.network.specs.Limits.{pathWords, workWords}
 use Rattle.network.specs.declared.Request.{Request}
 use Rattle.rules.specs.declared.RequestAnswer.{RequestAnswer}
 use Rattle.rules.specs.declared.ReleaseAnswer.{ReleaseAnswer}
 use Rattle.rules.specs.Replies.{answerOf, pathAfter, releaseAnswerOf}
 use Rattle.rules.specs.Calls.{quote, admission, booked, release, cleared}
 use Rattle.ledger.specs.History.{Lending, areaAfter, linksOf, Given, of-request, of-release, pathGiven, releaseGiven, givenTo, areaAtEnd}
-use Rattle.call_list.specs.Calls.{rows, kindOf, isQuote, requestOf, callOf, workLent, pathLent, workFiller, pathFiller, workWords, pathWords, lent, callAt, callsFrom}
+use Rattle.call_list.specs.Calls.{rows, kindOf, isQuote, requestOf, callOf, workLent, pathLent, workFiller, pathFiller, filledWork, filledPath, lent, callAt, callsFrom}
 
 -- ---- a row's call, on an area w: what it gives, and the area w' after
 module _ (w work path r : List ℕ) where
   abbrev pub Made : Given → List ℕ → Type 0
   Made g w' = (g ≡ givenTo w (callOf r work path)) × (w' ≡ areaAfter w (callOf r work path))
 
-  -- by the code's answer x, and for a path the path buffer p after
-  module _ (q : Request) (asked : q ≡ requestOf r) (x : RequestAnswer) (p : List ℕ) where
-    pub quoted : isQuote (kindOf r) ≡ true → x ≡ answerOf (quote w (length work) (length path) q)
+  -- by the code's answer `said`, and for a path the path buffer p after
+  module _ (q : Request) (asked : q ≡ requestOf r) (said : RequestAnswer) (p : List ℕ) where
+    pub quoted : isQuote (kindOf r) ≡ true → said ≡ answerOf (quote w (length work) (length path) q)
         → p ≡ pathAfter (quote w (length work) (length path) q) path
-        → Made (of-request x (take (linksOf x) p)) w
+        → Made (of-request said (take (linksOf said) p)) w
     unfolding callOf pathGiven
     quoted kind e f = rw kind (ap₂ (λ (y : RequestAnswer) (l : List ℕ). of-request y (take (linksOf y) l)) (e ∙ rw asked) (f ∙ rw asked), refl)
 
-    pub admitted : isQuote (kindOf r) ≡ false → (kindOf r ≡ 2 → ⊥) → x ≡ answerOf (admission w (length work) (length path) (getD r 1 0) q)
+    pub admitted : isQuote (kindOf r) ≡ false → (kindOf r ≡ 2 → ⊥) → said ≡ answerOf (admission w (length work) (length path) (getD r 1 0) q)
         → p ≡ pathAfter (admission w (length work) (length path) (getD r 1 0) q) path
         → (w' : List ℕ) → w' ≡ booked w (getD r 1 0) (q .units) (admission w (length work) (length path) (getD r 1 0) q)
-        → Made (of-request x (take (linksOf x) p)) w'
+        → Made (of-request said (take (linksOf said) p)) w'
     unfolding callOf pathGiven
     admitted kind other e f w' g =
         rw (kind, ne-eqb (kindOf r) 2 other)
         (ap₂ (λ (y : RequestAnswer) (l : List ℕ). of-request y (take (linksOf y) l)) (e ∙ rw asked) (f ∙ rw asked), g ∙ rw asked)
 
-  pub released : isQuote (kindOf r) ≡ false → kindOf r ≡ 2 → (x : ReleaseAnswer) → x ≡ releaseAnswerOf (release w (getD r 1 0))
+  pub released : isQuote (kindOf r) ≡ false → kindOf r ≡ 2 → (said : ReleaseAnswer) → said ≡ releaseAnswerOf (release w (getD r 1 0))
       → (w' : List ℕ) → w' ≡ cleared w (getD r 1 0) (release w (getD r 1 0))
-      → Made (of-release x) w'
+      → Made (of-release said) w'
   unfolding callOf releaseGiven
-  released kind two x e w' g = rw (kind, eq-eqb (kindOf r) 2 two) (ap of-release e, g)
+  released kind two said e w' g = rw (kind, eq-eqb (kindOf r) 2 two) (ap of-release e, g)
 
 -- ---- with the words that it is lent
 module _ (struck : Bool) (k : ℕ) (r : List ℕ) where
   pub work-as : (n word : ℕ) → n ≡ workLent (kindOf r) → word ≡ workFiller struck k
-      → take n (replicate 16384 word) ≡ workWords struck k (kindOf r)
-  unfolding workWords
+      → take n (replicate workWords word) ≡ filledWork struck k (kindOf r)
+  unfolding filledWork
   work-as n word many is =
-      ap (λ (m : ℕ). take m (replicate 16384 word)) many ∙ ap (λ (a : ℕ). take (workLent (kindOf r)) (replicate 16384 a)) is
+      ap (λ (m : ℕ). take m (replicate workWords word)) many ∙ ap (λ (a : ℕ). take (workLent (kindOf r)) (replicate workWords a)) is
 
-  pub path-as : (n word : ℕ) → n ≡ pathLent (kindOf r) → word ≡ pathFiller struck → take n (replicate 31 word) ≡ pathWords struck (kindOf r)
-  unfolding pathWords
+  pub path-as : (n word : ℕ) → n ≡ pathLent (kindOf r) → word ≡ pathFiller struck → take n (replicate pathWords word) ≡ filledPath struck (kindOf r)
+  unfolding filledPath
   path-as n word many is =
-      ap (λ (m : ℕ). take m (replicate 31 word)) many ∙ ap (λ (a : ℕ). take (pathLent (kindOf r)) (replicate 31 a)) is
+      ap (λ (m : ℕ). take m (replicate pathWords word)) many ∙ ap (λ (a : ℕ). take (pathLent (kindOf r)) (replicate pathWords a)) is
 
-  pub lent-as : (work path : List ℕ) → work ≡ workWords struck k (kindOf r) → path ≡ pathWords struck (kindOf r)
+  pub lent-as : (work path : List ℕ) → work ≡ filledWork struck k (kindOf r) → path ≡ filledPath struck (kindOf r)
       → callOf r work path ≡ lent struck k r
   unfolding lent
   lent-as work path e f =
-      ap (λ (l : List ℕ). callOf r l path) e ∙ ap (callOf r (workWords struck k (kindOf r))) f
+      ap (λ (l : List ℕ). callOf r l path) e ∙ ap (callOf r (filledWork struck k (kindOf r))) f
 
 -- ---- row k of the list, whose words are r
 module _ (struck : Bool) (k : ℕ) (r : List ℕ) (is : r ≡ getD rows k []) where

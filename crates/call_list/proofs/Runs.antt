@@ -8,7 +8,9 @@ use mathlib.Core.List.{List, [], _∷_, _++_}
 use native.Mathlib.Omega.{arith}
 use lib.Dec.{eqb}
 use lib.ListN.{length, getD, take, replicate, length-take, length-replicate}
+use Rattle.network.specs.Limits.{pathWords, workWords}
 use Rattle.network.proofs.Tests.{by-bool}
+use Rattle.area.specs.Layout.{areaWords}
 use Rattle.area.specs.Formed.{linksFit}
 use Rattle.area.specs.Order.{Same}
 use Rattle.area.specs.declared.Loading.the-variants.{Loaded}
@@ -18,15 +20,15 @@ use Rattle.ledger.specs.Entries.{quoting, admitting, releasing}
 use Rattle.ledger.specs.History.{Lending, measured, answers, areaAtEnd, bookings, Struck, end, strike, keep, remaining}
 use Rattle.ledger.proofs.Demands.{third-demand}
 use Rattle.cases.specs.Document01.{linksA}
-use Rattle.call_list.specs.Calls.{rows, kindOf, isQuote, requestOf, callOf, workLent, pathLent, workFiller, pathFiller, workWords, pathWords, lent, callsFrom, calls}
+use Rattle.call_list.specs.Calls.{rows, kindOf, isQuote, requestOf, callOf, workLent, pathLent, workFiller, pathFiller, filledWork, filledPath, lent, callsFrom, calls}
 
 -- ---- a row's call
 -- measured, it goes by the lengths of what it is lent
-measured-cond : (a b : Bool) (x y z : Lending)
-    → measured (cond a x (cond b y z)) ≡ cond a (measured x) (cond b (measured y) (measured z))
-measured-cond true b x y z = refl
-measured-cond false true x y z = refl
-measured-cond false false x y z = refl
+measured-cond : (a b : Bool) (c d e : Lending)
+    → measured (cond a c (cond b d e)) ≡ cond a (measured c) (cond b (measured d) (measured e))
+measured-cond true b c d e = refl
+measured-cond false true c d e = refl
+measured-cond false false c d e = refl
 
 measured-call : (r work path : List ℕ) → measured (callOf r work path) ≡ callOf r (length work) (length path)
 unfolding callOf
@@ -35,23 +37,23 @@ measured-call r work path =
 
 -- ---- the same row in the two runs
 -- it is lent as many words
-length-lent : (k n a b : ℕ) → length (take k (replicate n a)) ≡ length (take k (replicate n b))
-length-lent k n a b = simp (length-take, length-replicate)
+length-lent : (m n a b : ℕ) → length (take m (replicate n a)) ≡ length (take m (replicate n b))
+length-lent m n a b = simp (length-take, length-replicate)
 
-work-length : (k kind : ℕ) → length (workWords false k kind) ≡ length (workWords true k kind)
-unfolding workWords
-work-length k kind = length-lent (workLent kind) 16384 (workFiller false k) (workFiller true k)
+work-length : (k kind : ℕ) → length (filledWork false k kind) ≡ length (filledWork true k kind)
+unfolding filledWork
+work-length k kind = length-lent (workLent kind) workWords (workFiller false k) (workFiller true k)
 
-path-length : (kind : ℕ) → length (pathWords false kind) ≡ length (pathWords true kind)
-unfolding pathWords
-path-length kind = length-lent (pathLent kind) 31 (pathFiller false) (pathFiller true)
+path-length : (kind : ℕ) → length (filledPath false kind) ≡ length (filledPath true kind)
+unfolding filledPath
+path-length kind = length-lent (pathLent kind) pathWords (pathFiller false) (pathFiller true)
 
 measured-lent : (k : ℕ) (r : List ℕ) → measured (lent false k r) ≡ measured (lent true k r)
 unfolding lent
 measured-lent k r =
     measured-call r _ _
-    ∙ ap (λ (l : ℕ). callOf r l (length (pathWords false (kindOf r)))) (work-length k (kindOf r))
-    ∙ ap (callOf r (length (workWords true k (kindOf r)))) (path-length (kindOf r))
+    ∙ ap (λ (l : ℕ). callOf r l (length (filledPath false (kindOf r)))) (work-length k (kindOf r))
+    ∙ ap (callOf r (length (filledWork true k (kindOf r)))) (path-length (kindOf r))
     ∙ sym (measured-call r _ _)
 
 -- so the second run's list is the first one's, with its quotes struck
@@ -70,7 +72,7 @@ struck-calls k zero = end
 struck-calls k (suc n) = struck-call k (getD rows k []) _ _ (struck-calls (suc k) n)
 
 -- ---- the load
-pub load-accepts : (w : List ℕ) → 3459 ≤ length w → loadAnswer w 4 linksA ≡ Loaded
+pub load-accepts : (w : List ℕ) → areaWords ≤ length w → loadAnswer w 4 linksA ≡ Loaded
 unfolding linksFit
 load-accepts w long = sym (all-pass w 4 linksA long refl refl (omega arith) refl .0)
 
@@ -91,7 +93,7 @@ module _ (w v : List ℕ) where
       third-demand 4 linksA w accepted (calls false) .struck v accepted' (calls true) (struck-calls 0 25)
 
   -- on any two areas that are long enough
-  pub runs-agree : 3459 ≤ length w → 3459 ≤ length v → Agree
+  pub runs-agree : areaWords ≤ length w → areaWords ≤ length v → Agree
   runs-agree long long' = accepted-agree (load-accepts w long) (load-accepts v long')
 
   -- of the areas w' and v' that the program leaves

@@ -13,7 +13,7 @@ abbrev refused : ℕ → Given
 refused k = of-request (Refused k) []
 
 abbrev granted : ℕ → ℕ → ℕ → List ℕ → Given
-granted k d x p = of-request (Granted (record { problem = k; delay = d; cost = x; links = length p })) p
+granted which d c p = of-request (Granted (record { problem = which; delay = d; cost = c; links = length p })) p
 
 abbrev unreleased : ℕ → Given
 unreleased k = of-release (release.Refused k)
@@ -23,7 +23,7 @@ released = of-release release.Released
 
 -- by the three links, and by link 3
 abbrev byThree : ℕ → Given
-byThree k = granted k 6 15 three
+byThree which = granted which 6 15 three
 
 abbrev byLink3 : Given
 byLink3 = granted 1 9 1 (3 ∷ [])

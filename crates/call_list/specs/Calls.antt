@@ -6,6 +6,7 @@ use mathlib.Core.Bool.{Bool, cond, _&&_, _||_}
 use mathlib.Core.List.{List, [], _∷_, _++_}
 use lib.Dec.{eqb}
 use lib.ListN.{getD, take, replicate}
+use Rattle.network.specs.Limits.{pathWords, workWords}
 use Rattle.network.specs.declared.Request.{Request}
 use Rattle.network.specs.Reduce.{asking}
 use Rattle.ledger.specs.Entries.{Call, quoting, admitting, releasing}
@@ -16,7 +17,7 @@ use Rattle.ledger.specs.History.{Lending}
 -- an admission, 2 for a release, 3 for an admission lent too little work memory, 4 for a quote lent too short a path
 -- buffer
 abbrev row : ℕ → ℕ → ℕ → ℕ → ℕ → ℕ → ℕ → ℕ → List ℕ
-row kind c s t b d x f = kind ∷ c ∷ s ∷ t ∷ b ∷ d ∷ x ∷ f ∷ []
+row kind c s t b d cost f = kind ∷ c ∷ s ∷ t ∷ b ∷ d ∷ cost ∷ f ∷ []
 
 -- the rows of the code's table
 unfoldable pub rows : List (List ℕ)
@@ -67,10 +68,10 @@ callOf r work path =
 -- ---- what it is lent
 -- how many words, by the kind
 unfoldable pub workLent : ℕ → ℕ
-workLent kind = cond (eqb kind 3) 8 16384
+workLent kind = cond (eqb kind 3) 8 workWords
 
 unfoldable pub pathLent : ℕ → ℕ
-pathLent kind = cond (eqb kind 4) 30 31
+pathLent kind = cond (eqb kind 4) 30 pathWords
 
 -- which words, by the run and the row's number
 unfoldable pub workFiller : Bool → ℕ → ℕ
@@ -79,18 +80,18 @@ workFiller struck k = cond struck (4294967295 - k) k
 unfoldable pub pathFiller : Bool → ℕ
 pathFiller struck = cond struck 98 99
 
-unfoldable pub workWords : Bool → ℕ → ℕ → List ℕ
+unfoldable pub filledWork : Bool → ℕ → ℕ → List ℕ
 unfolding workLent workFiller
-workWords struck k kind = take (workLent kind) (replicate 16384 (workFiller struck k))
+filledWork struck k kind = take (workLent kind) (replicate workWords (workFiller struck k))
 
-unfoldable pub pathWords : Bool → ℕ → List ℕ
+unfoldable pub filledPath : Bool → ℕ → List ℕ
 unfolding pathLent pathFiller
-pathWords struck kind = take (pathLent kind) (replicate 31 (pathFiller struck))
+filledPath struck kind = take (pathLent kind) (replicate pathWords (pathFiller struck))
 
 -- the call of row k, with its words r
 unfoldable pub lent : Bool → ℕ → List ℕ → Lending
-unfolding callOf workWords pathWords
-lent struck k r = callOf r (workWords struck k (kindOf r)) (pathWords struck (kindOf r))
+unfolding callOf filledWork filledPath
+lent struck k r = callOf r (filledWork struck k (kindOf r)) (filledPath struck (kindOf r))
 
 -- ---- the list
 -- the call of row k, or none where it is a quote and quotes are struck

@@ -10,7 +10,9 @@ use native.Mathlib.Omega.{arith}
 use borrow.Author.Tests.{le-leb}
 use lib.Dec.{leb}
 use lib.ListN.{length, getD}
+use Rattle.network.specs.Limits.{linkWords, pathWords, workWords}
 use Rattle.network.specs.declared.Request.{Request}
+use Rattle.area.specs.Layout.{areaWords, tableWords}
 use Rattle.area.specs.Station.{Station, station, tableIn}
 use Rattle.area.specs.Formed.{WellFormed, wellFormed, linksFit}
 use Rattle.area.specs.Moves.{withCircuit}
@@ -30,7 +32,7 @@ use Rattle.cases.proofs.Rows.{replied-at, quoted-at, admitted-at}
 abbrev pub Like : List ℕ → ℕ → Type 0
 Like w k = WellFormed w × (station w ≡ station (areaIn k))
 
-area-long : (k : ℕ) → leb 3459 (length (areaIn k)) ≡ true
+area-long : (k : ℕ) → leb areaWords (length (areaIn k)) ≡ true
 unfolding areaIn
 area-long zero = refl
 area-long (suc zero) = refl
@@ -39,26 +41,26 @@ area-long (suc (suc (suc k))) = refl
 
 module _ (w : List ℕ) (k : ℕ) (like : Like w k) where
   decided : (wellFormed w ≡ wellFormed (areaIn k)) × (booksIn w ≡ booksIn (areaIn k))
-  decided = station-decides w (areaIn k) (le-leb 3459 (length w) (like .0 .long) ∙ sym (area-long k)) (like .1)
+  decided = station-decides w (areaIn k) (le-leb areaWords (length w) (like .0 .long) ∙ sym (area-long k)) (like .1)
 
   -- a call on it replies as on that one
-  like-quote : (r : Request) → quote w 16384 31 r ≡ quote (areaIn k) 16384 31 r
-  like-quote r = quote-depends w (areaIn k) 16384 31 r (decided .0) (decided .1)
+  like-quote : (r : Request) → quote w workWords pathWords r ≡ quote (areaIn k) workWords pathWords r
+  like-quote r = quote-depends w (areaIn k) workWords pathWords r (decided .0) (decided .1)
 
-  like-admission : (c : ℕ) (r : Request) → admission w 16384 31 c r ≡ admission (areaIn k) 16384 31 c r
-  like-admission c r = admission-depends w (areaIn k) 16384 31 c r (decided .0) (decided .1)
+  like-admission : (c : ℕ) (r : Request) → admission w workWords pathWords c r ≡ admission (areaIn k) workWords pathWords c r
+  like-admission c r = admission-depends w (areaIn k) workWords pathWords c r (decided .0) (decided .1)
 
 -- so the call that row i asks for replies as document 01 does
 module _ (i : ℕ) (low : i < 15) (r : List ℕ) (is : r ≡ getD rows i []) (w : List ℕ) (like : Like w (getD r 1 0)) where
-  pub case-quoted : getD r 2 0 ≡ 0 → quote w 16384 31 (requestOf r) ≡ caseAt i .reply
+  pub case-quoted : getD r 2 0 ≡ 0 → quote w workWords pathWords (requestOf r) ≡ caseAt i .reply
   case-quoted kind = like-quote w (getD r 1 0) like (requestOf r) ∙ quoted-at i low r is kind
 
-  pub case-admitted : (getD r 2 0 ≡ 0 → ⊥) → admission w 16384 31 (getD r 3 0) (requestOf r) ≡ caseAt i .reply
+  pub case-admitted : (getD r 2 0 ≡ 0 → ⊥) → admission w workWords pathWords (getD r 3 0) (requestOf r) ≡ caseAt i .reply
   case-admitted kind = like-admission w (getD r 1 0) like (getD r 3 0) (requestOf r) ∙ admitted-at i low r is kind
 
 -- ---- by a load
-module _ (w : List ℕ) (long : 3459 ≤ length w) where
-  accepts : (links : List ℕ) → length links % 5 ≡ 0 → length links ≤ 1280 → linksFit (tableOf 4 links) ≡ true
+module _ (w : List ℕ) (long : areaWords ≤ length w) where
+  accepts : (links : List ℕ) → length links % linkWords ≡ 0 → length links ≤ tableWords → linksFit (tableOf 4 links) ≡ true
       → loadAnswer w 4 links ≡ Loaded
   accepts links whole few fit = sym (all-pass w 4 links long refl whole few fit .0)
 
@@ -88,15 +90,15 @@ rest-b (suc (suc (suc k))) no-a no-m8 no-none = refl
 
 -- ---- by M8's admission
 -- its reply on net A is document 01's
-m8-replied : admission (areaIn onA) 16384 31 m8Circuit m8 ≡ byThree
+m8-replied : admission (areaIn onA) workWords pathWords m8Circuit m8 ≡ byThree
 unfolding caseAt
 m8-replied = replied-at 8 (omega arith)
 
 module _ (w : List ℕ) (like : Like w onA) where
   abbrev after : List ℕ
-  after = booked w m8Circuit (m8 .units) (admission w 16384 31 m8Circuit m8)
+  after = booked w m8Circuit (m8 .units) (admission w workWords pathWords m8Circuit m8)
 
-  same-reply : admission w 16384 31 m8Circuit m8 ≡ byThree
+  same-reply : admission w workWords pathWords m8Circuit m8 ≡ byThree
   same-reply = like-admission w onA like m8Circuit m8 ∙ m8-replied
 
   -- the station has the circuit more, as net A's has
@@ -104,15 +106,15 @@ module _ (w : List ℕ) (like : Like w onA) where
   unfolding areaIn
   after-station =
       ap (λ (a : PathReply). station (booked w m8Circuit (m8 .units) a)) same-reply
-      ∙ admitted-station w 16384 31 m8Circuit m8 _ same-reply
+      ∙ admitted-station w workWords pathWords m8Circuit m8 _ same-reply
       ∙ ap (λ (s : Station). withCircuit s (circuitFor m8Circuit (m8 .units) three)) (like .1)
-      ∙ sym (admitted-station netA 16384 31 m8Circuit m8 _ m8-replied)
+      ∙ sym (admitted-station netA workWords pathWords m8Circuit m8 _ m8-replied)
 
   after-like : Like after afterM8
-  after-like = (admitted-formed w 16384 31 m8Circuit m8 (like .0), after-station)
+  after-like = (admitted-formed w workWords pathWords m8Circuit m8 (like .0), after-station)
 
   -- row 8 is M8's admission
   pub m8-admitted : (r : List ℕ) → r ≡ getD rows 8 []
-      → Like (booked w (getD r 3 0) (requestOf r .units) (admission w 16384 31 (getD r 3 0) (requestOf r))) afterM8
+      → Like (booked w (getD r 3 0) (requestOf r .units) (admission w workWords pathWords (getD r 3 0) (requestOf r))) afterM8
   unfolding rows
   m8-admitted r is = rw is after-like

@@ -6,6 +6,7 @@ use mathlib.Core.Path.{_≡_, refl, sym, ap, _∙_}
 use mathlib.Core.List.{List, [], _∷_, map}
 use native.Mathlib.Omega.{arith}
 use lib.ListN.{length, getD}
+use Rattle.network.specs.Limits.{pathWords, workWords}
 use Rattle.rules.specs.Replies.{PathReply}
 use Rattle.rules.specs.Calls.{quote, admission}
 use Rattle.cases.specs.Document01.{Asked, quoting, admitting, areaIn, Case, cases, noCase, caseAt, requestIn, kindIn, circuitIn, rowOf, rows, requestOf}
@@ -15,8 +16,8 @@ use Rattle.cases.proofs.Worked.{replied, repliedTo, replies}
 -- what a function gives for an element, whatever stands past the end
 map-at : {A B : Type 0} (f : A → B) (l : List A) (i : ℕ) (a : A) (b : B) → i < length l → getD (map f l) i b ≡ f (getD l i a)
 map-at f [] i a b low = absurd (omega arith)
-map-at f (x ∷ l) zero a b low = refl
-map-at f (x ∷ l) (suc i) a b low = map-at f l i a b (omega arith)
+map-at f (u ∷ l) zero a b low = refl
+map-at f (u ∷ l) (suc i) a b low = map-at f l i a b (omega arith)
 
 pub many : length cases ≡ 15
 unfolding cases
@@ -54,11 +55,11 @@ module _ (c : Case) where
   row-request = refl
 
 -- the kind's number tells the call
-replied-quote : (w : List ℕ) (q : Asked) → kindIn q ≡ 0 → replied w q ≡ quote w 16384 31 (requestIn q)
+replied-quote : (w : List ℕ) (q : Asked) → kindIn q ≡ 0 → replied w q ≡ quote w workWords pathWords (requestIn q)
 replied-quote w (quoting r) kind = refl
 replied-quote w (admitting c r) kind = absurd (omega arith)
 
-replied-admission : (w : List ℕ) (q : Asked) → (kindIn q ≡ 0 → ⊥) → replied w q ≡ admission w 16384 31 (circuitIn q) (requestIn q)
+replied-admission : (w : List ℕ) (q : Asked) → (kindIn q ≡ 0 → ⊥) → replied w q ≡ admission w workWords pathWords (circuitIn q) (requestIn q)
 replied-admission w (quoting r) kind = absurd (kind refl)
 replied-admission w (admitting c r) kind = refl
 
@@ -70,13 +71,13 @@ module _ (i : ℕ) (low : i < 15) (r : List ℕ) (is : r ≡ getD rows i []) whe
   kind-is : getD r 2 0 ≡ kindIn (caseAt i .asked)
   kind-is = ap (λ (l : List ℕ). getD l 2 0) of-case ∙ row-kind (caseAt i)
 
-  pub quoted-at : getD r 2 0 ≡ 0 → quote (areaIn (getD r 1 0)) 16384 31 (requestOf r) ≡ caseAt i .reply
+  pub quoted-at : getD r 2 0 ≡ 0 → quote (areaIn (getD r 1 0)) workWords pathWords (requestOf r) ≡ caseAt i .reply
   quoted-at kind =
       let c = caseAt i in
       rw (of-case, row-area c, row-request c)
       (sym (replied-quote (areaIn (c .stands)) (c .asked) (sym kind-is ∙ kind)) ∙ replied-at i low)
 
-  pub admitted-at : (getD r 2 0 ≡ 0 → ⊥) → admission (areaIn (getD r 1 0)) 16384 31 (getD r 3 0) (requestOf r) ≡ caseAt i .reply
+  pub admitted-at : (getD r 2 0 ≡ 0 → ⊥) → admission (areaIn (getD r 1 0)) workWords pathWords (getD r 3 0) (requestOf r) ≡ caseAt i .reply
   admitted-at kind =
       let c = caseAt i in
       rw (of-case, row-area c, row-circuit c, row-request c)

@@ -7,6 +7,7 @@ use mathlib.Core.Bool.{true}
 use mathlib.Core.List.{List, [], _∷_, map, head-eq-of-cons-eq, tail-eq-of-cons-eq}
 use native.Mathlib.Omega.{arith}
 use lib.ListN.{length}
+use Rattle.network.specs.Limits.{pathWords, workWords}
 use Rattle.network.specs.Lists.{All}
 use Rattle.network.specs.Loops.{iter, first}
 use Rattle.network.specs.Net.{Net, IsPath, isPathb}
@@ -16,7 +17,7 @@ use Rattle.network.specs.Cut.{noted, follow}
 use Rattle.network.specs.Reduce.{problemOne, problemTwo}
 use Rattle.network.proofs.Paths.{path-of}
 use Rattle.search.specs.ebf.Table.{cell, cells, filled, initialised, improved, relaxed, offered, column, round, rounds, ebf}
-use Rattle.search.specs.ebf.Trace.{trailBack, stepBack, traced}
+use Rattle.search.specs.ebf.Trace.{placeBack, stepBack, traced}
 use Rattle.search.specs.ebf.Solve.{pathIn, answerIn, solveIn, solve}
 use Rattle.search.specs.Distance.{spread, layer, distance}
 use Rattle.search.specs.Heuristic.{tried, search}
@@ -33,8 +34,8 @@ use Rattle.rules.proofs.Meaning.{quote-means, admission-means}
 -- ---- the cases
 -- what the calls' definitions reply, with enough work memory and path buffer
 abbrev pub replied : List ℕ → Asked → PathReply
-replied w (quoting r) = quote w 16384 31 r
-replied w (admitting c r) = admission w 16384 31 c r
+replied w (quoting r) = quote w workWords pathWords r
+replied w (admitting c r) = admission w workWords pathWords c r
 
 -- and on the area that a case stands on
 abbrev pub repliedTo : Case → PathReply
@@ -42,13 +43,13 @@ repliedTo c = replied (areaIn (c .stands)) (c .asked)
 
 -- the replies of all cases, computed
 pub replies : map repliedTo cases ≡ map (λ (c : Case). c .reply) cases
-unfolding cases areaIn quote admission tableIn circuitOf outcome search tried solve solveIn answerIn pathIn ebf rounds round column offered relaxed improved initialised filled cell cells traced stepBack trailBack noted follow distance layer spread problemOne problemTwo scaled iter first
+unfolding cases areaIn quote admission tableIn circuitOf outcome search tried solve solveIn answerIn pathIn ebf rounds round column offered relaxed improved initialised filled cell cells traced stepBack placeBack noted follow distance layer spread problemOne problemTwo scaled iter first
 replies = refl
 
 -- a computed reply is what the call means
 replied-holds : (w : List ℕ) (q : Asked) → Holds w q (replied w q)
-replied-holds w (quoting r) = quote-means w 16384 31 r
-replied-holds w (admitting c r) = admission-means w 16384 31 r c
+replied-holds w (quoting r) = quote-means w workWords pathWords r
+replied-holds w (admitting c r) = admission-means w workWords pathWords r c
 
 -- one equation of two lists, as a statement of each element
 each : (l : List Case) → map repliedTo l ≡ map (λ (c : Case). c .reply) l → All CaseHolds l

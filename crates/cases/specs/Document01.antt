@@ -6,12 +6,14 @@ use Prim.Native.Nat.{ℕ, zero, suc, _+_, _*_}
 use mathlib.Core.Path.{_≡_}
 use mathlib.Core.List.{List, [], _∷_, map}
 use lib.ListN.{length, getD, replicate}
+use Rattle.network.specs.Limits.{pathWords, workWords}
 use Rattle.network.specs.Net.{sum}
 use Rattle.network.specs.Scale.{Overqualified}
 use Rattle.network.specs.Problem.{Distance}
 use Rattle.network.specs.Lists.{All}
 use Rattle.network.specs.declared.Request.{Request}
 use Rattle.network.specs.Reduce.{delayBound, costBound, asking}
+use Rattle.area.specs.Layout.{areaWords}
 use Rattle.area.specs.declared.Loading.the-variants.{Loaded}
 use Rattle.area.specs.Load.{loadAnswer, loaded}
 use Rattle.area.specs.Refusals.{refuses}
@@ -39,7 +41,7 @@ linksB =
 
 -- an area of zeros, as short as it may be
 abbrev pub blank : List ℕ
-blank = replicate 3459 0
+blank = replicate areaWords 0
 
 -- the same, loaded with four nodes and the links
 unfoldable pub area : List ℕ → List ℕ
@@ -153,8 +155,8 @@ cases =
 
 -- with enough work memory and path buffer, the reply is one that the call may give
 abbrev pub Holds : List ℕ → Asked → PathReply → Type 0
-Holds w (quoting r) a = Quoted w 16384 31 r a
-Holds w (admitting c r) a = Admitted w 16384 31 c r a
+Holds w (quoting r) a = Quoted w workWords pathWords r a
+Holds w (admitting c r) a = Admitted w workWords pathWords c r a
 
 abbrev pub CaseHolds : Case → Type 0
 CaseHolds c = Holds (areaIn (c .stands)) (c .asked) (c .reply)

@@ -38,20 +38,20 @@ module _ (t t₁ t₂ t₃ t₄ : List ℕ) (at r₁ r₂ r₃ r₄ k j : ℕ) w
       rw (refused-bytes k j) four
 
 -- ---- a class that is granted a path
-granted-bytes : (k x d c : ℕ) (p : List ℕ) → line k (x ∷ d ∷ c ∷ p) ≡ decimal k ++ field x ++ field d ++ field c ++ fields p ++ 10 ∷ []
-granted-bytes k x d c p = simp (line-is, more-fields, append-assoc)
+granted-bytes : (k which d c : ℕ) (p : List ℕ) → line k (which ∷ d ∷ c ∷ p) ≡ decimal k ++ field which ++ field d ++ field c ++ fields p ++ 10 ∷ []
+granted-bytes k which d c p = simp (line-is, more-fields, append-assoc)
 
-module _ (t t₁ t₂ t₃ t₄ t₅ t₆ : List ℕ) (at r₁ r₂ r₃ r₄ r₅ r₆ k x d c : ℕ) (p : List ℕ) where
-  pub granted-line : Put t at (decimal k) t₁ r₁ → Put t₁ r₁ (field x) t₂ r₂ → Put t₂ r₂ (field d) t₃ r₃ → Put t₃ r₃ (field c) t₄ r₄
+module _ (t t₁ t₂ t₃ t₄ t₅ t₆ : List ℕ) (at r₁ r₂ r₃ r₄ r₅ r₆ k which d c : ℕ) (p : List ℕ) where
+  pub granted-line : Put t at (decimal k) t₁ r₁ → Put t₁ r₁ (field which) t₂ r₂ → Put t₂ r₂ (field d) t₃ r₃ → Put t₃ r₃ (field c) t₄ r₄
       → Put t₄ r₄ (fields p) t₅ r₅ → Put t₅ r₅ (10 ∷ []) t₆ r₆
-      → Put t at (line k (x ∷ d ∷ c ∷ p)) t₆ r₆
+      → Put t at (line k (which ∷ d ∷ c ∷ p)) t₆ r₆
   granted-line class problem delay cost links newline =
-      let two = put-behind t t₁ t₂ (decimal k) (field x) at r₁ r₂ class problem in
-      let three = put-behind t t₂ t₃ (decimal k ++ field x) (field d) at r₂ r₃ two delay in
-      let four = put-behind t t₃ t₄ (decimal k ++ field x ++ field d) (field c) at r₃ r₄ three cost in
-      let five = put-behind t t₄ t₅ (decimal k ++ field x ++ field d ++ field c) (fields p) at r₄ r₅ four links in
-      let six = put-behind t t₅ t₆ (decimal k ++ field x ++ field d ++ field c ++ fields p) (10 ∷ []) at r₅ r₆ five newline in
-      rw (granted-bytes k x d c p) six
+      let two = put-behind t t₁ t₂ (decimal k) (field which) at r₁ r₂ class problem in
+      let three = put-behind t t₂ t₃ (decimal k ++ field which) (field d) at r₂ r₃ two delay in
+      let four = put-behind t t₃ t₄ (decimal k ++ field which ++ field d) (field c) at r₃ r₄ three cost in
+      let five = put-behind t t₄ t₅ (decimal k ++ field which ++ field d ++ field c) (fields p) at r₄ r₅ four links in
+      let six = put-behind t t₅ t₆ (decimal k ++ field which ++ field d ++ field c ++ fields p) (10 ∷ []) at r₅ r₆ five newline in
+      rw (granted-bytes k which d c p) six
 
 -- ---- the loop of `put_lines`
 no-lines : (area : List ℕ) (n k : ℕ) → linesFrom area n k 0 ≡ []

@@ -8,7 +8,7 @@ use Rattle.network.specs.Scale.{scaled}
 use Rattle.network.specs.Cut.{noted, follow}
 use Rattle.network.specs.Reduce.{problemOne, problemTwo}
 use Rattle.search.specs.ebf.Table.{cell, cells, filled, initialised, improved, relaxed, offered, column, round, rounds, ebf}
-use Rattle.search.specs.ebf.Trace.{trailBack, stepBack, traced}
+use Rattle.search.specs.ebf.Trace.{placeBack, stepBack, traced}
 use Rattle.search.specs.ebf.Solve.{pathIn, answerIn, solveIn, solve}
 use Rattle.search.specs.Distance.{spread, layer, distance}
 use Rattle.search.specs.Heuristic.{tried, search}
@@ -19,7 +19,7 @@ use Rattle.class_format.specs.Output.{fileOutput, output}
 use Rattle.class_format.specs.NetA.{fileFor, netAFile, netALines, fileSeventeen, loadTwo}
 
 pub net-a-prints : output netAFile ≡ netALines
-unfolding output fileOutput netAFile wordAt signed fills tableIn circuitOf outcome search tried solve solveIn answerIn pathIn ebf rounds round column offered relaxed improved initialised filled cell cells traced stepBack trailBack noted follow distance layer spread problemOne problemTwo scaled iter first
+unfolding output fileOutput netAFile wordAt signed fills tableIn circuitOf outcome search tried solve solveIn answerIn pathIn ebf rounds round column offered relaxed improved initialised filled cell cells traced stepBack placeBack noted follow distance layer spread problemOne problemTwo scaled iter first
 net-a-prints = refl
 
 pub no-byte-prints : output [] ≡ fileSeventeen

@@ -6,6 +6,7 @@ use Prim.Native.Nat.{ℕ, _≤_}
 use native.Mathlib.Omega.{arith}
 use lib.ListN.{length, take, drop, length-append}
 use lib.Seq.{take-append-seam}
+use Rattle.network.specs.Limits.{pathWords, workWords}
 use Rattle.network.proofs.Tests.{zero-one}
 use Rattle.network.specs.declared.Grant.{Grant}
 use Rattle.network.specs.declared.Request.{Request}
@@ -19,14 +20,14 @@ use Rattle.rules.specs.Calls.{quote}
 use Rattle.class_format.specs.Lines.{line, replyLine, requestOf, quoteLine, answeredLine, classLine}
 
 -- ---- a quote's reply
-quote-line : (area : List ℕ) (n k : ℕ) (s : Service) → quoteLine area n k s ≡ replyLine k (quote area 16384 31 (requestOf n s))
+quote-line : (area : List ℕ) (n k : ℕ) (s : Service) → quoteLine area n k s ≡ replyLine k (quote area workWords pathWords (requestOf n s))
 unfolding quoteLine
 quote-line area n k s = refl
 
 -- the lengths that the code lends
-pub line-of-quote : (area : List ℕ) (n k work room : ℕ) (s : Service) (r : Request) → work ≡ 16384 → room ≡ 31 → r ≡ requestOf n s
-    → quoteLine area n k s ≡ replyLine k (quote area work room r)
-line-of-quote area n k work room s r w l e = quote-line area n k s ∙ rw (w, l, e)
+pub line-of-quote : (area : List ℕ) (n k work path : ℕ) (s : Service) (r : Request) → work ≡ workWords → path ≡ pathWords → r ≡ requestOf n s
+    → quoteLine area n k s ≡ replyLine k (quote area work path r)
+line-of-quote area n k work path s r w l e = quote-line area n k s ∙ rw (w, l, e)
 
 refuses-line : (k number : ℕ) → replyLine k (refuses number) ≡ line k (0 ∷ number ∷ [])
 unfolding replyLine
@@ -37,7 +38,7 @@ unfolding replyLine
 grants-line k b = refl
 
 -- a refusal's line
-pub reply-refused : (k j : ℕ) (x : PathReply) → Refused j ≡ answerOf x → replyLine k x ≡ line k (0 ∷ j ∷ [])
+pub reply-refused : (k j : ℕ) (said : PathReply) → Refused j ≡ answerOf said → replyLine k said ≡ line k (0 ∷ j ∷ [])
 unfolding answerOf
 reply-refused k j (refuses number) e = let same : number ≡ j = cc in refuses-line k number ∙ rw same
 reply-refused k j (grants b) e = absurd (zero-one cc)
@@ -45,19 +46,19 @@ reply-refused k j (grants b) e = absurd (zero-one cc)
 -- a granted path's l links stand in the first words of the buffer
 module _ (k l : ℕ) (g : Grant) (buffer after : List ℕ) (wide : l ≡ g .links) where
   abbrev Told : PathReply → Type 0
-  Told x = (l ≤ length after) × (replyLine k x ≡ line k (g .problem ∷ g .delay ∷ g .cost ∷ take l after))
+  Told said = (l ≤ length after) × (replyLine k said ≡ line k (g .problem ∷ g .delay ∷ g .cost ∷ take l after))
 
-  granted-told : (b : PathGrant) → g ≡ record { problem = b .problem; delay = b .delay; cost = b .cost; links = length (b .path) }
+  granted-written : (b : PathGrant) → g ≡ record { problem = b .problem; delay = b .delay; cost = b .cost; links = length (b .path) }
       → after ≡ b .path ++ drop (length (b .path)) buffer → Told (grants b)
-  granted-told b e written = (
+  granted-written b e written = (
     rw (wide, e, written) (simp length-append (omega arith)),
     grants-line k b ∙ rw (wide, e, written) (rw take-append-seam),
   )
 
-  pub reply-granted : (x : PathReply) → Granted g ≡ answerOf x → after ≡ pathAfter x buffer → Told x
+  pub reply-granted : (said : PathReply) → Granted g ≡ answerOf said → after ≡ pathAfter said buffer → Told said
   unfolding answerOf pathAfter
   reply-granted (refuses number) e written = absurd (zero-one cc)
-  reply-granted (grants b) e written = granted-told b (cc) written
+  reply-granted (grants b) e written = granted-written b (cc) written
 
 -- ---- a class
 class-line : (area : List ℕ) (n k : ℕ) → classLine area n k ≡ answeredLine area n k (classAnswer k)

@@ -7,13 +7,15 @@ use native.Mathlib.Omega.{arith}
 use borrow.Author.Tests.{le-leb, lt-leb}
 use lib.ListN.{length, take, drop, length-append}
 use lib.Seq.{sets, take-at, length-take-le}
+use Rattle.network.specs.Limits.{linkWords}
 use Rattle.io.specs.Counts.{Counts}
+use Rattle.area.specs.Layout.{tableWords}
 use Rattle.area.specs.Station.{Station}
 use Rattle.area.specs.declared.Loading.the-variants as loading
 use Rattle.area.specs.Load.{loadAnswer, areaLoaded}
 use Rattle.area.proofs.Loads.{accepted-station, accepted-formed}
 use Rattle.link_format.specs.declared.Size.{Size}
-use Rattle.link_format.specs.declared.Reading.the-variants as reading
+use Rattle.link_format.specs.declared.FileAnswer.the-variants as file
 use Rattle.link_format.specs.Reading.{readAnswer, recordWords, tableRead, linksIn}
 use Rattle.link_format.proofs.Accepted.{records-length, size-read, table-accepted}
 use Rattle.text_format.specs.Fields.{field, fields}
@@ -71,36 +73,36 @@ module _ (n : ℕ) (links : List ℕ) where
 
 -- ---- what a file prints
 module _ (f : List ℕ) where
-  file-prints : fileOutput f ≡ readingOutput (recordWords f) (readAnswer f 1280)
+  file-prints : fileOutput f ≡ readingOutput (recordWords f) (readAnswer f tableWords)
   unfolding fileOutput
   file-prints = refl
 
-  unread-prints : (links : List ℕ) (k : ℕ) → readingOutput links (reading.Refused k) ≡ refusal fileWord k
+  unread-prints : (links : List ℕ) (k : ℕ) → readingOutput links (file.Refused k) ≡ refusal fileWord k
   unfolding readingOutput
   unread-prints links k = refl
 
-  read-prints : (links : List ℕ) (s : Size) → readingOutput links (reading.Table s) ≡ loadOutput (s .nodes) links
+  read-prints : (links : List ℕ) (s : Size) → readingOutput links (file.Table s) ≡ loadOutput (s .nodes) links
   unfolding readingOutput
   read-prints links s = refl
 
-  pub file-refused : (k : ℕ) → reading.Refused k ≡ readAnswer f 1280 → fileOutput f ≡ refusal fileWord k
+  pub file-refused : (k : ℕ) → file.Refused k ≡ readAnswer f tableWords → fileOutput f ≡ refusal fileWord k
   file-refused k e = file-prints ∙ ap (readingOutput (recordWords f)) (sym e) ∙ unread-prints (recordWords f) k
 
-  pub file-read : (s : Size) → reading.Table s ≡ readAnswer f 1280 → fileOutput f ≡ loadOutput (s .nodes) (recordWords f)
+  pub file-read : (s : Size) → file.Table s ≡ readAnswer f tableWords → fileOutput f ≡ loadOutput (s .nodes) (recordWords f)
   file-read s e = file-prints ∙ ap (readingOutput (recordWords f)) (sym e) ∙ read-prints (recordWords f) s
 
   -- the first words of the table after are the records'
-  module _ (s : Size) (t after : List ℕ) (l : ℕ) (wide : l ≡ s .links) (e : reading.Table s ≡ readAnswer f (length t)) (stored : after ≡ tableRead f t) where
+  module _ (s : Size) (t after : List ℕ) (l : ℕ) (wide : l ≡ s .links) (e : file.Table s ≡ readAnswer f (length t)) (stored : after ≡ tableRead f t) where
     links-are : l ≡ linksIn f
-    links-are = wide ∙ ap (λ (x : Size). x .links) (size-read f (length t) s (sym e))
+    links-are = wide ∙ ap (λ (z : Size). z .links) (size-read f (length t) s (sym e))
 
-    records-then : after ≡ recordWords f ++ drop (5 * linksIn f) t
+    records-then : after ≡ recordWords f ++ drop (linkWords * linksIn f) t
     records-then = stored ∙ table-accepted f t s (sym e)
 
-    pub table-front : take (5 * l) after ≡ recordWords f
-    table-front = ap (take (5 * l)) records-then ∙ take-at (recordWords f) _ (5 * l) (omega (arith, records-length f, links-are))
+    pub table-front : take (linkWords * l) after ≡ recordWords f
+    table-front = ap (take (linkWords * l)) records-then ∙ take-at (recordWords f) _ (linkWords * l) (omega (arith, records-length f, links-are))
 
-    pub table-fits : 5 * l ≤ length after
+    pub table-fits : linkWords * l ≤ length after
     table-fits = omega (arith, simp length-append at (ap length records-then), records-length f, links-are)
 
 -- ---- the whole output

@@ -2,6 +2,7 @@
 -- Assumes nothing.
 use Prim.Native.Nat.{ℕ, zero, suc, _-_}
 use mathlib.Core.List.{List, [], _∷_, _++_}
+use Rattle.network.specs.Limits.{pathWords, workWords}
 use Rattle.network.specs.Reduce.{asking}
 use Rattle.network.specs.declared.Request.{Request}
 use Rattle.area.specs.Refusals.{refuses, grants}
@@ -32,7 +33,7 @@ requestOf n s = asking 0 (n - 1) (s .units) (s .«delay_bound») (s .«cost_boun
 -- the line of class k with the row s, quoted on an area of n nodes
 unfoldable pub quoteLine : List ℕ → ℕ → ℕ → Service → List ℕ
 unfolding replyLine quote requestOf
-quoteLine area n k s = replyLine k (quote area 16384 31 (requestOf n s))
+quoteLine area n k s = replyLine k (quote area workWords pathWords (requestOf n s))
 
 -- the line of class k by what the class call answers
 unfoldable pub answeredLine : List ℕ → ℕ → ℕ → ClassAnswer → List ℕ

@@ -5,11 +5,12 @@ use mathlib.Core.Bool.{cond}
 use mathlib.Core.List.{List, [], _∷_, _++_}
 use lib.Dec.{leb}
 use lib.ListN.{length, replicate}
+use Rattle.area.specs.Layout.{areaWords, tableWords}
 use Rattle.area.specs.declared.Loading.{Loading}
 use Rattle.area.specs.declared.Loading.the-variants as loading
 use Rattle.area.specs.Load.{loadAnswer, areaLoaded}
-use Rattle.link_format.specs.declared.Reading.{Reading}
-use Rattle.link_format.specs.declared.Reading.the-variants as reading
+use Rattle.link_format.specs.declared.FileAnswer.{FileAnswer}
+use Rattle.link_format.specs.declared.FileAnswer.the-variants as file
 use Rattle.link_format.specs.Reading.{readAnswer, recordWords}
 use Rattle.text_format.specs.Fields.{fields}
 use Rattle.class_format.specs.Lines.{lines}
@@ -31,7 +32,7 @@ refusal word number = word ++ fields (number ∷ []) ++ 10 ∷ []
 
 -- the words of the area before it is loaded
 unfoldable pub blank : List ℕ
-blank = replicate 3459 0
+blank = replicate areaWords 0
 
 -- a refused load prints only that; else a line for each class, quoted on the area that was loaded
 unfoldable pub loadingOutput : List ℕ → ℕ → Loading → List ℕ
@@ -44,15 +45,15 @@ unfolding loadingOutput areaLoaded loadAnswer blank
 loadOutput n links = loadingOutput (areaLoaded blank n links) n (loadAnswer blank n links)
 
 -- a refused file prints only that; else its links are loaded
-unfoldable pub readingOutput : List ℕ → Reading → List ℕ
+unfoldable pub readingOutput : List ℕ → FileAnswer → List ℕ
 unfolding refusal loadOutput
-readingOutput links (reading.Refused number) = refusal fileWord number
-readingOutput links (reading.Table s) = loadOutput (s .nodes) links
+readingOutput links (file.Refused number) = refusal fileWord number
+readingOutput links (file.Table s) = loadOutput (s .nodes) links
 
--- the program's table has 1,280 words, enough for 256 links
+-- the program's table has the words of a full one
 unfoldable pub fileOutput : List ℕ → List ℕ
 unfolding readingOutput readAnswer recordWords
-fileOutput file = readingOutput (recordWords file) (readAnswer file 1280)
+fileOutput file = readingOutput (recordWords file) (readAnswer file tableWords)
 
 -- input over 65,536 bytes prints only that it is long
 unfoldable pub output : List ℕ → List ℕ

@@ -5,11 +5,14 @@ ghost use mathlib.Core.List.{[], _∷_};
 ghost use Prim.Native.Nat.{_+_, _≤_};
 ghost use lib.ListN.{length};
 ghost use lib.Seq.{sets};
+ghost use Rattle.network.specs.Limits.{pathWords};
 ghost use Rattle.class_format.specs.Lines.{line, requestOf, quoteLine, classLine, lines};
 use booking::quote::quote;
 use links::link;
 use network::Grant;
 use network::Request;
+use network::limits::PATH_WORDS;
+use network::limits::WORK_WORDS;
 use rules::RequestAnswer;
 use rules::Service;
 
@@ -27,7 +30,7 @@ fn put_refused(text: &mut [u8; 4096], at: usize, class: u32, number: u32) -> usi
 
 // Class, problem, delay, cost, links.
 fn put_granted(text: &mut [u8; 4096], at: usize, class: u32, g: Grant, path: &[u32]) -> usize
-    requires { ⌜ (at + 385 ≤ 4096) × (length (now path) ≤ 31) ⌝ }
+    requires { ⌜ (at + 385 ≤ 4096) × (length (now path) ≤ pathWords) ⌝ }
     ensures end { λ r. ⌜ (r ≡ at + length (line class (g .problem ∷ g .delay ∷ g .cost ∷ now (path .entry)))) × (r ≤ at + 385) × (r ≤ length (now (text .exit))) ⌝ }
     ensures text { λ _. ⌜ now (text .exit) ≡ sets (now (text .entry)) at (line class (g .problem ∷ g .delay ∷ g .cost ∷ now (path .entry))) ⌝ }
 {
@@ -58,8 +61,8 @@ fn request(n: u32, s: Service) -> Request
 fn put_quote(
     text: &mut [u8; 4096],
     at: usize,
-    area: &[u32; 3459],
-    work: &mut [u32; 16384],
+    area: &[u32],
+    work: &mut [u32; WORK_WORDS],
     n: u32,
     class: u32,
     s: Service,
@@ -68,10 +71,10 @@ fn put_quote(
     ensures end { λ r. ⌜ (r ≡ at + length (quoteLine (now (area .entry)) n class s)) × (r ≤ at + 385) × (r ≤ length (now (text .exit))) ⌝ }
     ensures text { λ _. ⌜ now (text .exit) ≡ sets (now (text .entry)) at (quoteLine (now (area .entry)) n class s) ⌝ }
 {
-    let mut path = [0u32; 31];
+    let mut path = [0u32; PATH_WORDS];
     let a = quote(area, work, &mut path, request(n, s));
     match a {
-        RequestAnswer::Refused(k) => put_refused(text, at, class, k),
+        RequestAnswer::Refused(number) => put_refused(text, at, class, number),
         RequestAnswer::Granted(g) => {
             let l = link::wide(g.links);
             put_granted(text, at, class, g, &path[..l])
@@ -83,8 +86,8 @@ fn put_quote(
 fn put_class(
     text: &mut [u8; 4096],
     at: usize,
-    area: &[u32; 3459],
-    work: &mut [u32; 16384],
+    area: &[u32],
+    work: &mut [u32; WORK_WORDS],
     n: u32,
     k: u32,
 ) -> usize
@@ -100,12 +103,12 @@ fn put_class(
 }
 
 // The lines of the six classes. The caller has loaded the area with n nodes, which are at least two.
-pub fn put_lines(text: &mut [u8; 4096], area: &[u32; 3459], n: u32) -> usize
+pub fn put_lines(text: &mut [u8; 4096], area: &[u32], n: u32) -> usize
     requires { ⌜ 1 ≤ n ⌝ }
     ensures end { λ r. ⌜ (r ≡ length (lines (now (area .entry)) n)) × (r ≤ length (now (text .exit))) ⌝ }
     ensures text { λ _. ⌜ now (text .exit) ≡ sets (now (text .entry)) 0 (lines (now (area .entry)) n) ⌝ }
 {
-    let mut work = [0u32; 16384];
+    let mut work = [0u32; WORK_WORDS];
     let mut at = 0;
     for k in 0..6 {
         at = put_class(text, at, area, &mut work, n, k);

@@ -7,8 +7,11 @@ ghost use Rattle.io.specs.Counts.{Counts};
 ghost use Rattle.class_format.specs.Output.{refusal, loadOutput, fileOutput, output};
 use crate::lines::put_lines;
 use area::Loading;
-use link_format::Reading;
+use link_format::FileAnswer;
 use links::link;
+use network::limits::LINK_WORDS;
+use station::layout::AREA_WORDS;
+use station::layout::TABLE_WORDS;
 use station::load::load;
 
 // A word and a refusal's number.
@@ -26,7 +29,7 @@ fn put_quotes(text: &mut [u8; 4096], n: u32, links: &[u32]) -> usize
     ensures end { λ r. ⌜ (r ≡ length (loadOutput n (now (links .entry)))) × (r ≤ length (now (text .exit))) ⌝ }
     ensures text { λ _. ⌜ now (text .exit) ≡ sets (now (text .entry)) 0 (loadOutput n (now (links .entry))) ⌝ }
 {
-    let mut area = [0u32; 3459];
+    let mut area = [0u32; AREA_WORDS];
     let loading = load(n, links, &mut area);
     match loading {
         Loading::Refused(k) => put_refusal(text, b"load", k),
@@ -39,12 +42,12 @@ fn put_file(text: &mut [u8; 4096], file: &[u8]) -> usize
     ensures end { λ r. ⌜ (r ≡ length (fileOutput (now (file .entry)))) × (r ≤ length (now (text .exit))) ⌝ }
     ensures text { λ _. ⌜ now (text .exit) ≡ sets (now (text .entry)) 0 (fileOutput (now (file .entry))) ⌝ }
 {
-    let mut table = [0u32; 1280];
+    let mut table = [0u32; TABLE_WORDS];
     let reading = link_file::read(file, &mut table);
     match reading {
-        Reading::Refused(k) => put_refusal(text, b"file", k),
-        Reading::Table(size) => {
-            let end = 5 * link::wide(size.links);
+        FileAnswer::Refused(k) => put_refusal(text, b"file", k),
+        FileAnswer::Table(size) => {
+            let end = LINK_WORDS * link::wide(size.links);
             put_quotes(text, size.nodes, &table[..end])
         }
     }

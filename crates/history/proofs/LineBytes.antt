@@ -49,20 +49,20 @@ module _ (k kind : ℕ) where
 
 -- ---- what a call gives
 -- of a path buffer an answer tells only the words that it counts
-words-counted : (x : RequestAnswer) (p : List ℕ) → answerText x (take (linksOf x) p) ≡ answerText x p
+words-counted : (said : RequestAnswer) (p : List ℕ) → answerText said (take (linksOf said) p) ≡ answerText said p
 unfolding answerText
-words-counted (Refused k) p = refl
+words-counted (Refused number) p = refl
 words-counted (Granted g) p =
     ap (λ (l : List ℕ). fields (g .problem ∷ g .delay ∷ g .cost ∷ []) ++ lineText l) (take-take (g .links) (g .links) p (omega arith))
 
 -- so with the whole path buffer p after, the text is that of what the call gives
-pub request-text : (x : RequestAnswer) (p : List ℕ) (g : Given) → of-request x (take (linksOf x) p) ≡ g → givenText g ≡ answerText x p
+pub request-text : (said : RequestAnswer) (p : List ℕ) (g : Given) → of-request said (take (linksOf said) p) ≡ g → givenText g ≡ answerText said p
 unfolding givenText
-request-text x p g e = ap givenText (sym e) ∙ words-counted x p
+request-text said p g e = ap givenText (sym e) ∙ words-counted said p
 
-pub release-text : (x : ReleaseAnswer) (g : Given) → of-release x ≡ g → givenText g ≡ releaseText x
+pub release-text : (said : ReleaseAnswer) (g : Given) → of-release said ≡ g → givenText g ≡ releaseText said
 unfolding givenText
-release-text x g e = ap givenText (sym e)
+release-text said g e = ap givenText (sym e)
 
 -- ---- a row
 -- its name, and then what its call c gives

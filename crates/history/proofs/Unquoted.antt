@@ -21,14 +21,14 @@ use Rattle.history.specs.Lines.{lineOf, linesOf, unquotedLines, rowsFrom
 
 -- ---- the calls that are quotes
 abbrev quotes : {Lent : Type 0} → Call Lent → Bool
-quotes (quoting work room r) = true
-quotes (admitting work room c r) = false
+quotes (quoting work path r) = true
+quotes (admitting work path c r) = false
 quotes (releasing c) = false
 
 -- by its numbers and lengths alone
 quotes-measured : (c : Lending) → quotes (measured c) ≡ quotes c
-quotes-measured (quoting work room r) = refl
-quotes-measured (admitting work room c r) = refl
+quotes-measured (quoting work path r) = refl
+quotes-measured (admitting work path c r) = refl
 quotes-measured (releasing c) = refl
 
 -- a row's call is one where its kind is a quote's

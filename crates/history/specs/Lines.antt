@@ -29,8 +29,8 @@ nameText k kind = decimal k ++ cond (isQuote kind) quoteName (cond (eqb kind 2) 
 -- what a call answered
 unfoldable pub givenText : Given → List ℕ
 unfolding answerText releaseText
-givenText (of-request x words) = answerText x words
-givenText (of-release x) = releaseText x
+givenText (of-request said words) = answerText said words
+givenText (of-release said) = releaseText said
 
 -- the line of row k with this answer
 unfoldable pub lineOf : ℕ → Given → List ℕ

@@ -5,6 +5,7 @@ ghost use Prim.Native.Nat.{_+_, _<_, _≤_};
 ghost use mathlib.Core.List.{[]};
 ghost use lib.ListN.{length, getD};
 ghost use lib.Seq.{sets};
+ghost use Rattle.network.specs.Limits.{pathWords};
 ghost use Rattle.ledger.specs.History.{givenTo, areaAfter, areaAtEnd};
 ghost use Rattle.call_list.specs.Calls.{rows, requestOf, callOf, lent, callAt, calls};
 ghost use Rattle.history.specs.Lines.{nameText, givenText, lentText, rowText, runText};
@@ -18,6 +19,8 @@ use booking::calls;
 use booking::quote::quote;
 use links::link;
 use network::Request;
+use network::limits::PATH_WORDS;
+use network::limits::WORK_WORDS;
 
 // The list of calls. A row is kind, circuit number, source, target, units, delay bound, cost bound and coefficient; a
 // number that plays no part is 0.
@@ -81,14 +84,14 @@ fn request(row: [u32; 8]) -> Request
 // Makes the call of a row with this work memory and path buffer, and puts what it answered. It leaves the area as the
 // history has it.
 fn put_call(
-    area: &mut [u32; 3459],
+    area: &mut [u32],
     work: &mut [u32],
     path: &mut [u32],
     text: &mut [u8; 10000],
     at: usize,
     row: [u32; 8],
 ) -> usize
-    requires { ⌜ (at + 380 ≤ 10000) × (length (now path) ≤ 31) ⌝ }
+    requires { ⌜ (at + 380 ≤ 10000) × (length (now path) ≤ pathWords) ⌝ }
     ensures area { λ _. ⌜ now (area .exit) ≡ areaAfter (now (area .entry)) (callOf row (now (work .entry)) (now (path .entry))) ⌝ }
     ensures end { λ r. ⌜ (r ≡ at + length (givenText (givenTo (now (area .entry)) (callOf row (now (work .entry)) (now (path .entry)))))) × (r ≤ at + 380) × (r ≤ length (now (text .exit))) ⌝ }
     ensures text { λ _. ⌜ now (text .exit) ≡ sets (now (text .entry)) at (givenText (givenTo (now (area .entry)) (callOf row (now (work .entry)) (now (path .entry))))) ⌝ }
@@ -111,7 +114,7 @@ fn put_call(
 // Fills work memory and path buffer, lends as many of their words as the row's kind is lent, and puts the line of row `k`.
 fn put_row(
     struck: bool,
-    area: &mut [u32; 3459],
+    area: &mut [u32],
     text: &mut [u8; 10000],
     at: usize,
     k: u32,
@@ -122,10 +125,10 @@ fn put_row(
     ensures end { λ r. ⌜ (r ≡ at + length (lentText struck (now (area .entry)) k row)) × (r ≤ at + 400) × (r ≤ length (now (text .exit))) ⌝ }
     ensures text { λ _. ⌜ now (text .exit) ≡ sets (now (text .entry)) at (lentText struck (now (area .entry)) k row) ⌝ }
 {
-    let mut work: [u32; 16384] = [kinds::work_filler(struck, k); 16384];
-    let mut path: [u32; 31] = [kinds::path_filler(struck); 31];
-    let w = kinds::lent(row[0], SHORT_WORK, 8, 16384);
-    let p = kinds::lent(row[0], SHORT_PATH, 30, 31);
+    let mut work: [u32; WORK_WORDS] = [kinds::work_filler(struck, k); WORK_WORDS];
+    let mut path: [u32; PATH_WORDS] = [kinds::path_filler(struck); PATH_WORDS];
+    let w = kinds::lent(row[0], SHORT_WORK, 8, WORK_WORDS);
+    let p = kinds::lent(row[0], SHORT_PATH, 30, PATH_WORDS);
     let named = put_name(text, at, k, row[0]);
     put_call(area, &mut work[..w], &mut path[..p], text, named, row)
 }
@@ -139,13 +142,7 @@ fn row_at(k: u32) -> [u32; 8]
 }
 
 // The call of row `k` and its line, unless it is a quote and quotes are struck.
-fn unless_struck(
-    struck: bool,
-    area: &mut [u32; 3459],
-    text: &mut [u8; 10000],
-    at: usize,
-    k: u32,
-) -> usize
+fn unless_struck(struck: bool, area: &mut [u32], text: &mut [u8; 10000], at: usize, k: u32) -> usize
     requires { ⌜ (k < 25) × (at + 400 ≤ 10000) × (at ≤ length (now text)) ⌝ }
     ensures area { λ _. ⌜ now (area .exit) ≡ areaAtEnd (now (area .entry)) (callAt struck k) ⌝ }
     ensures end { λ r. ⌜ (r ≡ at + length (rowText struck (now (area .entry)) k)) × (r ≤ at + 400) × (r ≤ length (now (text .exit))) ⌝ }
@@ -159,7 +156,7 @@ fn unless_struck(
 }
 
 // The calls of the whole list, with their lines. A line has at most 400 bytes, so the text has room for all.
-pub(crate) fn every_call(struck: bool, area: &mut [u32; 3459], text: &mut [u8; 10000]) -> usize
+pub(crate) fn every_call(struck: bool, area: &mut [u32], text: &mut [u8; 10000]) -> usize
     ensures area { λ _. ⌜ now (area .exit) ≡ areaAtEnd (now (area .entry)) (calls struck) ⌝ }
     ensures end { λ r. ⌜ (r ≡ length (runText struck (now (area .entry)))) × (r ≤ length (now (text .exit))) ⌝ }
     ensures text { λ _. ⌜ now (text .exit) ≡ sets (now (text .entry)) 0 (runText struck (now (area .entry))) ⌝ }

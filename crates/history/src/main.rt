@@ -12,7 +12,10 @@
 // bookings are the same. The text of a run's calls is written once, at its end.
 ghost use mathlib.Core.Path.{_≡_};
 ghost use mathlib.Core.Bool.{true, false};
+ghost use Prim.Native.Nat.{_≤_};
+ghost use lib.ListN.{length};
 ghost use lib.Seq.{sets};
+ghost use Rattle.area.specs.Layout.{areaWords};
 ghost use Rattle.area.specs.Order.{Same};
 ghost use Rattle.area.specs.declared.Loading.the-variants.{Loaded};
 ghost use Rattle.area.specs.Load.{loadAnswer, areaLoaded};
@@ -30,6 +33,7 @@ use crate::list::every_call;
 use area::Loading;
 use cases::NET_A;
 use libc::STDOUT_FILENO;
+use station::layout::AREA_WORDS;
 use station::load::load;
 
 fn write_loading(loading: Loading) {
@@ -38,8 +42,9 @@ fn write_loading(loading: Loading) {
     output::write_text(&text, end);
 }
 
-// Loads net A, which every area of this length takes.
-fn load_net(area: &mut [u32; 3459])
+// Loads net A, which every area that is long enough takes.
+fn load_net(area: &mut [u32])
+    requires { ⌜ areaWords ≤ length (now area) ⌝ }
     ensures accepted { λ _. ⌜ loadAnswer (now (area .entry)) 4 linksA ≡ Loaded ⌝ }
     ensures area { λ _. ⌜ now (area .exit) ≡ areaLoaded (now (area .entry)) 4 linksA ⌝ }
 {
@@ -48,7 +53,8 @@ fn load_net(area: &mut [u32; 3459])
 }
 
 // The list from a load on: its text, and then what is held and free.
-fn run(struck: bool, area: &mut [u32; 3459], text: &mut [u8; 10000])
+fn run(struck: bool, area: &mut [u32], text: &mut [u8; 10000])
+    requires { ⌜ areaWords ≤ length (now area) ⌝ }
     ensures accepted { λ _. ⌜ loadAnswer (now (area .entry)) 4 linksA ≡ Loaded ⌝ }
     ensures area { λ _. ⌜ now (area .exit) ≡ areaAtEnd (areaLoaded (now (area .entry)) 4 linksA) (calls struck) ⌝ }
     ensures text { λ _. ⌜ now (text .exit) ≡ sets (now (text .entry)) 0 (runText struck (areaLoaded (now (area .entry)) 4 linksA)) ⌝ }
@@ -64,27 +70,28 @@ fn run(struck: bool, area: &mut [u32; 3459], text: &mut [u8; 10000])
 // run answers each remaining call as the first did, so its text is the first one's without the lines of the quotes; and both
 // leave the same bookings.
 fn both_runs(
-    first: &mut [u32; 3459],
-    second: &mut [u32; 3459],
-    told: &mut [u8; 10000],
-    again: &mut [u8; 10000],
+    first: &mut [u32],
+    second: &mut [u32],
+    text: &mut [u8; 10000],
+    unquoted: &mut [u8; 10000],
 )
+    requires { ⌜ (areaWords ≤ length (now first)) × (areaWords ≤ length (now second)) ⌝ }
     ensures first { λ _. ⌜ now (first .exit) ≡ areaAtEnd (areaLoaded (now (first .entry)) 4 linksA) (calls false) ⌝ }
     ensures second { λ _. ⌜ now (second .exit) ≡ areaAtEnd (areaLoaded (now (second .entry)) 4 linksA) (calls true) ⌝ }
-    ensures told { λ _. ⌜ now (told .exit) ≡ sets (now (told .entry)) 0 (linesOf (rowsMade false) (answers (areaLoaded (now (first .entry)) 4 linksA) (calls false))) ⌝ }
-    ensures again { λ _. ⌜ now (again .exit) ≡ sets (now (again .entry)) 0 (unquotedLines (rowsMade false) (answers (areaLoaded (now (first .entry)) 4 linksA) (calls false))) ⌝ }
+    ensures text { λ _. ⌜ now (text .exit) ≡ sets (now (text .entry)) 0 (linesOf (rowsMade false) (answers (areaLoaded (now (first .entry)) 4 linksA) (calls false))) ⌝ }
+    ensures unquoted { λ _. ⌜ now (unquoted .exit) ≡ sets (now (unquoted .entry)) 0 (unquotedLines (rowsMade false) (answers (areaLoaded (now (first .entry)) 4 linksA) (calls false))) ⌝ }
     ensures same { λ _. ⌜ Same (bookings (now (second .exit))) (bookings (now (first .exit))) ⌝ }
 {
-    run(false, first, told);
+    run(false, first, text);
     io::write_all(STDOUT_FILENO, b"quotes struck\n");
-    run(true, second, again);
+    run(true, second, unquoted);
 }
 
 // Before it is loaded, the second area seems to hold seven circuits with number 7.
 fn main() {
-    let mut first: [u32; 3459] = [88; 3459];
-    let mut second: [u32; 3459] = [7; 3459];
-    let mut told: [u8; 10000] = [0; 10000];
-    let mut again: [u8; 10000] = [0; 10000];
-    both_runs(&mut first, &mut second, &mut told, &mut again);
+    let mut first: [u32; AREA_WORDS] = [88; AREA_WORDS];
+    let mut second: [u32; AREA_WORDS] = [7; AREA_WORDS];
+    let mut text: [u8; 10000] = [0; 10000];
+    let mut unquoted: [u8; 10000] = [0; 10000];
+    both_runs(&mut first, &mut second, &mut text, &mut unquoted);
 }

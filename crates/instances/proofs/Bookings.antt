@@ -6,7 +6,7 @@ use Rattle.network.specs.Scale.{scaled}
 use Rattle.network.specs.Cut.{noted, follow}
 use Rattle.network.specs.Reduce.{problemOne, problemTwo, asking}
 use Rattle.search.specs.ebf.Table.{cell, cells, filled, initialised, improved, relaxed, offered, column, round, rounds, ebf}
-use Rattle.search.specs.ebf.Trace.{trailBack, stepBack, traced}
+use Rattle.search.specs.ebf.Trace.{placeBack, stepBack, traced}
 use Rattle.search.specs.ebf.Solve.{pathIn, answerIn, solveIn, solve}
 use Rattle.search.specs.Distance.{spread, layer, distance}
 use Rattle.search.specs.Heuristic.{tried, search}
@@ -54,12 +54,12 @@ pub record Releases : Type 0 where
   pub others : release (cleared (twoA 8 10) 7 releases) 8 ≡ releases
 
 pub quotes : Quotes
-unfolding quote freshA twoA tableIn circuitOf outcome search tried solve solveIn answerIn pathIn ebf rounds round column offered relaxed improved initialised filled cell cells traced stepBack trailBack noted follow distance layer spread problemOne problemTwo scaled iter first
+unfolding quote freshA twoA tableIn circuitOf outcome search tried solve solveIn answerIn pathIn ebf rounds round column offered relaxed improved initialised filled cell cells traced stepBack placeBack noted follow distance layer spread problemOne problemTwo scaled iter first
 quotes =
     record { five = refl; six = refl; seven = refl; eight = refl; nine = refl; ten = refl; by-one = refl; by-two = refl }
 
 pub admissions : Admissions
-unfolding admission booked freshA heldA twoA tableIn circuitOf outcome search tried solve solveIn answerIn pathIn ebf rounds round column offered relaxed improved initialised filled cell cells traced stepBack trailBack noted follow distance layer spread problemOne problemTwo scaled iter first
+unfolding admission booked freshA heldA twoA tableIn circuitOf outcome search tried solve solveIn answerIn pathIn ebf rounds round column offered relaxed improved initialised filled cell cells traced stepBack placeBack noted follow distance layer spread problemOne problemTwo scaled iter first
 admissions =
     record {
       five = refl;

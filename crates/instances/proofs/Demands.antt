@@ -21,7 +21,7 @@ use Rattle.area.specs.Order.{Same}
 use Rattle.area.specs.Moves.{without}
 use Rattle.area.specs.Refusals.{Rule, FirstApplies, Passes, refuses, grants, IsRefused, IsGranted}
 use Rattle.area.specs.declared.Loading.the-variants as loading
-use Rattle.area.specs.declared.Reading.the-variants as reading
+use Rattle.area.specs.declared.ValueAnswer.the-variants as value
 use Rattle.area.specs.Load.{loadAnswer, areaLoaded}
 use Rattle.area.specs.Reads.{listAnswer, listed, freeAnswer}
 use Rattle.rules.specs.declared.RequestAnswer.the-variants as request
@@ -33,7 +33,7 @@ use Rattle.rules.specs.Calls as calls
 use Rattle.rules.specs.Classes.{classAnswer}
 use Rattle.rules.specs.Allowed.{Grant, searchRules, requestRules, numberRules, releaseRules}
 use Rattle.link_format.specs.declared.Size.{Size}
-use Rattle.link_format.specs.declared.Reading.the-variants as file
+use Rattle.link_format.specs.declared.FileAnswer.the-variants as file
 use Rattle.link_format.specs.Reading.{readAnswer, tableRead}
 use Rattle.ledger.specs.Entries.{quoting, admitting, releasing, told, Ledger, opened, moved}
 use Rattle.ledger.specs.History.{Lending, Given, of-request, of-release, releaseGiven, answers, areaAtEnd, bookings, strike, keep, end}
@@ -44,62 +44,62 @@ use Rattle.ledger.specs.Demand.{FirstDemand, GrantedPath, SecondDemand, ThirdDe
 module _ (demand : FirstDemand) where
   pub load-decided : (w : List ℕ) (n : ℕ) (links : List ℕ)
       → (loadAnswer w n links ≡ loading.Loaded)
-      ⊎ ((k : ℕ) × (memb k (1 ∷ 2 ∷ 3 ∷ 4 ∷ []) ≡ true) × (loadAnswer w n links ≡ loading.Refused k) × (areaLoaded w n links ≡ w))
+      ⊎ ((number : ℕ) × (memb number (1 ∷ 2 ∷ 3 ∷ 4 ∷ []) ≡ true) × (loadAnswer w n links ≡ loading.Refused number) × (areaLoaded w n links ≡ w))
   load-decided = demand .load
 
   module _ (w : List ℕ) (work : ℕ) (l : List ℕ) (r : Request) where
     pub quote-decided : ((g : Numbers) × (answerOf (calls.quote w work (length l) r) ≡ request.Granted g))
-        ⊎ ((k : ℕ) × (memb k (5 ∷ 6 ∷ 7 ∷ 8 ∷ 9 ∷ 10 ∷ []) ≡ true) × (answerOf (calls.quote w work (length l) r) ≡ request.Refused k)
+        ⊎ ((number : ℕ) × (memb number (5 ∷ 6 ∷ 7 ∷ 8 ∷ 9 ∷ 10 ∷ []) ≡ true) × (answerOf (calls.quote w work (length l) r) ≡ request.Refused number)
         × (pathAfter (calls.quote w work (length l) r) l ≡ l))
     quote-decided = demand .quote w work l r
 
     pub admission-decided : (c : ℕ) → ((g : Numbers) × (answerOf (calls.admission w work (length l) c r) ≡ request.Granted g))
-        ⊎ ((k : ℕ) × (memb k (5 ∷ 6 ∷ 7 ∷ 8 ∷ 11 ∷ 12 ∷ 9 ∷ 10 ∷ []) ≡ true)
-        × (answerOf (calls.admission w work (length l) c r) ≡ request.Refused k)
+        ⊎ ((number : ℕ) × (memb number (5 ∷ 6 ∷ 7 ∷ 8 ∷ 11 ∷ 12 ∷ 9 ∷ 10 ∷ []) ≡ true)
+        × (answerOf (calls.admission w work (length l) c r) ≡ request.Refused number)
         × ((calls.booked w c (r .units) (calls.admission w work (length l) c r) ≡ w)
         × (pathAfter (calls.admission w work (length l) c r) l ≡ l)))
     admission-decided c = demand .admission w work l c r
 
   pub release-decided : (w : List ℕ) (c : ℕ)
       → (releaseAnswerOf (calls.release w c) ≡ release.Released)
-      ⊎ ((k : ℕ) × (memb k (5 ∷ 13 ∷ []) ≡ true) × (releaseAnswerOf (calls.release w c) ≡ release.Refused k)
+      ⊎ ((number : ℕ) × (memb number (5 ∷ 13 ∷ []) ≡ true) × (releaseAnswerOf (calls.release w c) ≡ release.Refused number)
       × (calls.cleared w c (calls.release w c) ≡ w))
   release-decided = demand .release
 
   pub list-decided : (w l : List ℕ)
-      → ((h : ℕ) × (listAnswer w (length l) ≡ reading.Value h))
-      ⊎ ((k : ℕ) × (memb k (5 ∷ 14 ∷ []) ≡ true) × (listAnswer w (length l) ≡ reading.Refused k) × (listed w l ≡ l))
+      → ((h : ℕ) × (listAnswer w (length l) ≡ value.Value h))
+      ⊎ ((number : ℕ) × (memb number (5 ∷ 14 ∷ []) ≡ true) × (listAnswer w (length l) ≡ value.Refused number) × (listed w l ≡ l))
   list-decided = demand .list
 
   pub free-decided : (w : List ℕ) (i : ℕ)
-      → ((u : ℕ) × (freeAnswer w i ≡ reading.Value u))
-      ⊎ ((k : ℕ) × (memb k (5 ∷ 15 ∷ []) ≡ true) × (freeAnswer w i ≡ reading.Refused k) × Unit {0})
+      → ((u : ℕ) × (freeAnswer w i ≡ value.Value u))
+      ⊎ ((number : ℕ) × (memb number (5 ∷ 15 ∷ []) ≡ true) × (freeAnswer w i ≡ value.Refused number) × Unit {0})
   free-decided = demand .free-units
 
   pub class-decided : (c : ℕ)
       → ((s : Service) × (classAnswer c ≡ class.Row s))
-      ⊎ ((k : ℕ) × (memb k (16 ∷ []) ≡ true) × (classAnswer c ≡ class.Refused k) × Unit {0})
+      ⊎ ((number : ℕ) × (memb number (16 ∷ []) ≡ true) × (classAnswer c ≡ class.Refused number) × Unit {0})
   class-decided = demand .class
 
   pub file-decided : (f t : List ℕ)
       → ((s : Size) × (readAnswer f (length t) ≡ file.Table s))
-      ⊎ ((k : ℕ) × (memb k (17 ∷ 18 ∷ 19 ∷ []) ≡ true) × (readAnswer f (length t) ≡ file.Refused k) × (tableRead f t ≡ t))
+      ⊎ ((number : ℕ) × (memb number (17 ∷ 18 ∷ 19 ∷ []) ≡ true) × (readAnswer f (length t) ≡ file.Refused number) × (tableRead f t ≡ t))
   file-decided = demand .link-file
 
 -- ---- a quote, an admission of circuit c and a release of circuit d, from the area that Load leaves of w
-module _ (w : List ℕ) (n : ℕ) (links : List ℕ) (work room work' room' : List ℕ) (r r' : Request) (c d : ℕ) where
+module _ (w : List ℕ) (n : ℕ) (links : List ℕ) (work path work' path' : List ℕ) (r r' : Request) (c d : ℕ) where
   abbrev list : List Lending
-  list = quoting work room r ∷ admitting work' room' c r' ∷ releasing d ∷ []
+  list = quoting work path r ∷ admitting work' path' c r' ∷ releasing d ∷ []
 
   -- the area at first, and before the release
   abbrev start : List ℕ
   start = areaLoaded w n links
 
   abbrev quoted : PathReply
-  quoted = calls.quote start (length work) (length room) r
+  quoted = calls.quote start (length work) (length path) r
 
   abbrev admitted : PathReply
-  admitted = calls.admission start (length work') (length room') c r'
+  admitted = calls.admission start (length work') (length path') c r'
 
   abbrev later : List ℕ
   later = calls.booked start c (r' .units) admitted
@@ -112,7 +112,7 @@ module _ (w : List ℕ) (n : ℕ) (links : List ℕ) (work room work' room' : Li
   early = books (opened n links)
 
   abbrev entered : Ledger
-  entered = moved (opened n links) (admitting (length work') (length room') c r') (told (admitting (length work') (length room') c r') admitted)
+  entered = moved (opened n links) (admitting (length work') (length path') c r') (told (admitting (length work') (length path') c r') admitted)
 
   -- the networks that the two requests see
   abbrev g : Net
@@ -123,10 +123,10 @@ module _ (w : List ℕ) (n : ℕ) (links : List ℕ) (work room work' room' : Li
 
   -- the rules of each call
   abbrev quote-rules : List Rule
-  quote-rules = requestRules early (length work) (length room) r
+  quote-rules = requestRules early (length work) (length path) r
 
   abbrev admission-rules : List Rule
-  admission-rules = requestRules early (length work') (length room') r' ++ numberRules early c
+  admission-rules = requestRules early (length work') (length path') r' ++ numberRules early c
 
   -- no solution of either problem, at whatever distance
   abbrev Unsolvable : Net → Request → Type 0
@@ -170,17 +170,17 @@ module _ (w : List ℕ) (n : ℕ) (links : List ℕ) (work room work' room' : Li
 
   -- ---- the third demand
   module _ (demand : ThirdDemand w n links list) where
-    -- refused with k just where k is the number of the first rule that applies
-    pub quote-refused : (k : ℕ) → (quoted ≡ refuses k) ↔ FirstApplies (quote-rules ++ searchRules g r) k
+    -- refused with a number just where it is the number of the first rule that applies
+    pub quote-refused : (number : ℕ) → (quoted ≡ refuses number) ↔ FirstApplies (quote-rules ++ searchRules g r) number
     quote-refused = demand .refusals .0
 
-    pub admission-refused : (k : ℕ) → (admitted ≡ refuses k) ↔ FirstApplies (admission-rules ++ searchRules g' r') k
+    pub admission-refused : (number : ℕ) → (admitted ≡ refuses number) ↔ FirstApplies (admission-rules ++ searchRules g' r') number
     admission-refused = demand .refusals .1 .0
 
-    pub release-refused : (k : ℕ) → (freed ≡ refuses k) ↔ ((books entered .holds d ≡ false) × (k ≡ 13))
-    release-refused k = (λ e. only (demand .refusals .1 .1 .0 k .0 e), λ h. demand .refusals .1 .1 .0 k .1 (inl h))
+    pub release-refused : (number : ℕ) → (freed ≡ refuses number) ↔ ((books entered .holds d ≡ false) × (number ≡ 13))
+    release-refused number = (λ e. only (demand .refusals .1 .1 .0 number .0 e), λ h. demand .refusals .1 .1 .0 number .1 (inl h))
       where
-        only : FirstApplies (releaseRules (books entered) d) k → (books entered .holds d ≡ false) × (k ≡ 13)
+        only : FirstApplies (releaseRules (books entered) d) number → (books entered .holds d ≡ false) × (number ≡ 13)
         only (inl h) = h
         only (inr h) = absurd (h .1)
 
@@ -225,7 +225,7 @@ module _ (w : List ℕ) (n : ℕ) (links : List ℕ) (work room work' room' : Li
         subst (λ (a : PathReply). Same (bookings (calls.cleared later d freed)) (without d (held a))) e (demand .books)
       where
         held : PathReply → List Circuit
-        held a = moved (opened n links) (admitting (length work') (length room') c r') (told (admitting (length work') (length room') c r') a) .held
+        held a = moved (opened n links) (admitting (length work') (length path') c r') (told (admitting (length work') (length path') c r') a) .held
 
     -- an overqualified path is enough
     pub quote-enough : Passes quote-rules → (k : ℕ) → Distance g (r .source) (r .target) k → (p : List ℕ)
@@ -240,7 +240,7 @@ module _ (w : List ℕ) (n : ℕ) (links : List ℕ) (work room work' room' : Li
 
     -- the quote struck: on any area that Load accepts, the other two calls, lent as many words, answer as they did, and
     -- leave the same bookings
-    pub unquoted : (v : List ℕ) → loadAnswer v n links ≡ loading.Loaded → (lent lent' : List ℕ) → length work' ≡ length lent → length room' ≡ length lent'
+    pub unquoted : (v : List ℕ) → loadAnswer v n links ≡ loading.Loaded → (lent lent' : List ℕ) → length work' ≡ length lent → length path' ≡ length lent'
         → (answers (areaLoaded v n links) (admitting lent lent' c r' ∷ releasing d ∷ [])
         ≡ of-request (answerOf admitted) (pathOf admitted) ∷ of-release (releaseAnswerOf freed) ∷ [])
         × Same (bookings (areaAtEnd (areaLoaded v n links) (admitting lent lent' c r' ∷ releasing d ∷ []))) (bookings (calls.cleared later d freed))

@@ -16,8 +16,10 @@ use Rattle.network.specs.Scale.{scaled}
 use Rattle.network.specs.Cut.{noted, follow}
 use Rattle.network.specs.Reduce.{problemOne, problemTwo, granted, asking}
 use Rattle.network.specs.declared.Request.{Request}
+use Rattle.network.proofs.Tests.{both}
+use Rattle.network.proofs.Ranges.{range-test}
 use Rattle.search.specs.ebf.Table.{cell, cells, filled as filledCells, initialised, improved, relaxed, offered, column, round, rounds, ebf}
-use Rattle.search.specs.ebf.Trace.{trailBack, stepBack, traced}
+use Rattle.search.specs.ebf.Trace.{placeBack, stepBack, traced}
 use Rattle.search.specs.ebf.Solve.{pathIn, answerIn, solveIn, solve}
 use Rattle.search.specs.Distance.{spread, layer, distance}
 use Rattle.search.specs.Heuristic.{tried, search}
@@ -26,7 +28,7 @@ use Rattle.area.specs.Station.{Station, tableIn, station}
 use Rattle.area.specs.Books.{usage, holds, books, net}
 use Rattle.area.specs.Formed.{WellFormed}
 use Rattle.area.specs.Moves.{withCircuit}
-use Rattle.area.proofs.Formed.{both, range-test, formed-test}
+use Rattle.area.proofs.Formed.{formed-test}
 use Rattle.area.proofs.Added.{added-station}
 use Rattle.area.specs.declared.Loading.the-variants.{Loaded}
 use Rattle.area.specs.Load.{tableOf, loadAnswer, areaLoaded}
@@ -35,7 +37,7 @@ use Rattle.area.proofs.ReadCases.{links-few}
 use Rattle.rules.specs.Requests.{requestFits}
 use Rattle.area.specs.Refusals.{refuses}
 use Rattle.rules.specs.Replies.{PathReply, granting, answerOf, pathAfter, replyOf}
-use Rattle.rules.specs.Calls.{numberFits, sought, admission, booked}
+use Rattle.rules.specs.Calls.{numberFits, searched, admission, booked}
 use Rattle.rules.specs.Meaning.{booksIn}
 use Rattle.rules.proofs.Facts.{count-is}
 use Rattle.rules.proofs.Bookings.{admitted-formed}
@@ -106,11 +108,11 @@ alike k low =
     usable (suc i) l = absurd (omega (arith, l))
 
 first-found : outcome (net (books (holding 0)) 1) asked ≡ granted 1 (0 ∷ [])
-unfolding net books outcome search tried solve solveIn answerIn pathIn ebf rounds round column offered relaxed improved initialised filledCells cell cells traced stepBack trailBack noted follow distance layer spread problemOne problemTwo scaled member inserted iter first
+unfolding net books outcome search tried solve solveIn answerIn pathIn ebf rounds round column offered relaxed improved initialised filledCells cell cells traced stepBack placeBack noted follow distance layer spread problemOne problemTwo scaled member inserted iter first
 first-found = refl
 
-found : (k : ℕ) → k < 65535 → sought (books (holding k)) asked ≡ byLink
-unfolding sought books
+found : (k : ℕ) → k < 65535 → searched (books (holding k)) asked ≡ byLink
+unfolding searched books
 found k low =
     ap (replyOf (net (books (holding k)) 1))
     (choice-depends (books (holding k)) (books (holding 0)) asked (alike k low) ∙ first-found)
@@ -122,8 +124,8 @@ new k low =
     both _ _ (range-test 1 65535 (suc k) (omega arith) (omega arith)) (ap not (circuits-holds k (suc k) (omega arith)))
 
 -- ---- one admission more, whatever work memory and path buffer it is lent
-module _ (work room : ℕ) (memory : 16384 ≤ work) (buffer : 31 ≤ room) (k : ℕ) (here : Reached k) where
-  passed : Passed (filled k) work room asked
+module _ (work path : ℕ) (memory : 16384 ≤ work) (buffer : 31 ≤ path) (k : ℕ) (here : Reached k) where
+  passed : Passed (filled k) work path asked
   unfolding station tableIn requestFits
   passed =
       let nodes = ap (λ (s : Station). s .table .nodes) (here .is) in
@@ -136,11 +138,11 @@ module _ (work room : ℕ) (memory : 16384 ≤ work) (buffer : 31 ≤ room) (k :
   fits : k < 65535 → numberFits (booksIn (filled k)) (suc k) ≡ true
   fits low = subst (λ (s : Station). numberFits (books s) (suc k) ≡ true) (sym (here .is)) (new k low)
 
-  next-granted : k < 64 → admission (filled k) work room (suc k) asked ≡ byLink
+  next-granted : k < 64 → admission (filled k) work path (suc k) asked ≡ byLink
   next-granted low =
-      let room-left : getD (filled k) 2 0 < 64 = omega (arith, held, count-is (filled k)) in
-      sym (searches (filled k) work room (suc k) asked passed (fits (omega arith)) room-left)
-      ∙ ap (λ (s : Station). sought (books s) asked) (here .is)
+      let place-left : getD (filled k) 2 0 < 64 = omega (arith, held, count-is (filled k)) in
+      sym (searches (filled k) work path (suc k) asked passed (fits (omega arith)) place-left)
+      ∙ ap (λ (s : Station). searched (books s) asked) (here .is)
       ∙ found k (omega arith)
 
   next-reached : k < 64 → Reached (suc k)
@@ -154,19 +156,19 @@ module _ (work room : ℕ) (memory : 16384 ≤ work) (buffer : 31 ≤ room) (k :
             ∙ ap (λ (s : Station). withCircuit s (circuit (suc k) 1 (0 ∷ []))) (here .is);
         formed =
             subst (λ (a : PathReply). WellFormed (booked (filled k) (suc k) 1 a)) (next-granted low)
-            (admitted-formed (filled k) work room (suc k) asked (here .formed));
+            (admitted-formed (filled k) work path (suc k) asked (here .formed));
       }
 
   -- but where 64 are held it is refused
-  sixty-fifth : k ≡ 64 → admission (filled k) work room (suc k) asked ≡ refuses 12
+  sixty-fifth : k ≡ 64 → admission (filled k) work path (suc k) asked ≡ refuses 12
   sixty-fifth e =
       let full : 64 ≤ getD (filled k) 2 0 = omega (arith, e, held, count-is (filled k)) in
-      sym (fails-12 (filled k) work room (suc k) asked passed (fits (omega (arith, e))) full)
+      sym (fails-12 (filled k) work path (suc k) asked passed (fits (omega (arith, e))) full)
 
 -- ---- the list of admissions, each lent the same words
-module _ (work room : List ℕ) (memory : 16384 ≤ length work) (buffer : 31 ≤ length room) where
+module _ (work path : List ℕ) (memory : 16384 ≤ length work) (buffer : 31 ≤ length path) where
   abbrev pub call : ℕ → Lending
-  call c = admitting work room c asked
+  call c = admitting work path c asked
 
   -- of n circuits after circuit k
   abbrev pub calls : ℕ → ℕ → List Lending
@@ -176,11 +178,11 @@ module _ (work room : List ℕ) (memory : 16384 ≤ length work) (buffer : 31 �
   after : (k : ℕ) → k < 64 → Reached k → areaAfter (filled k) (call (suc k)) ≡ filled (suc k)
   unfolding filled booked
   after k low here =
-      ap (booked (filled k) (suc k) 1) (next-granted (length work) (length room) memory buffer k here low)
+      ap (booked (filled k) (suc k) 1) (next-granted (length work) (length path) memory buffer k here low)
 
   reached : (k : ℕ) → k ≤ 64 → Reached k
   reached zero low = at-first
-  reached (suc k) low = next-reached (length work) (length room) memory buffer k (reached k (omega arith)) (omega arith)
+  reached (suc k) low = next-reached (length work) (length path) memory buffer k (reached k (omega arith)) (omega arith)
 
   booked-all : (k n : ℕ) → k + n ≤ 64 → areaAtEnd (filled k) (calls k n) ≡ filled (k + n)
   booked-all k zero low = let e : k ≡ k + 0 = omega arith in ap filled e
@@ -195,7 +197,7 @@ module _ (work room : List ℕ) (memory : 16384 ≤ length work) (buffer : 31 �
   granted-all k zero low = tt
   granted-all k (suc n) low =
       let here : Reached k = reached k (omega arith) in (
-        ap (pathGiven room) (next-granted (length work) (length room) memory buffer k here (omega arith)),
+        ap (pathGiven path) (next-granted (length work) (length path) memory buffer k here (omega arith)),
         subst (λ (w : List ℕ). Granted (answers w (calls (suc k) n))) (sym (after k (omega arith) here))
             (granted-all (suc k) n (omega arith)),
       )
@@ -210,4 +212,4 @@ module _ (work room : List ℕ) (memory : 16384 ≤ length work) (buffer : 31 �
   unfolding filled
   then-twelve =
       ap (λ (w : List ℕ). replyTo w (call 65)) (booked-all 0 64 (omega arith))
-      ∙ sixty-fifth (length work) (length room) memory buffer 64 (reached 64 (omega arith)) refl
+      ∙ sixty-fifth (length work) (length path) memory buffer 64 (reached 64 (omega arith)) refl

@@ -12,7 +12,7 @@ use Rattle.network.specs.Scale.{scaled}
 use Rattle.network.specs.Cut.{noted, follow}
 use Rattle.network.specs.Reduce.{problemOne, problemTwo}
 use Rattle.search.specs.ebf.Table.{cell, cells, filled, initialised, improved, relaxed, offered, column, round, rounds, ebf}
-use Rattle.search.specs.ebf.Trace.{trailBack, stepBack, traced}
+use Rattle.search.specs.ebf.Trace.{placeBack, stepBack, traced}
 use Rattle.search.specs.ebf.Solve.{pathIn, answerIn, solveIn, solve}
 use Rattle.search.specs.Distance.{spread, layer, distance}
 use Rattle.search.specs.Heuristic.{tried, search}
@@ -28,7 +28,7 @@ use Rattle.ledger.specs.Demand.{ThirdDemand}
 use Rattle.ledger.proofs.Demands.{third-demand}
 use Rattle.cases.specs.Document01.{blank, linksA, m3, three}
 use Rattle.instances.specs.Areas.{circuit}
-use Rattle.instances.specs.Calls.{work, room, calls, expected, unquoted}
+use Rattle.instances.specs.Calls.{work, path, calls, expected, unquoted}
 
 -- ---- the third demand's premise is met, so it holds of the list
 pub accepted : loadAnswer blank 4 linksA ≡ Loaded
@@ -44,7 +44,7 @@ start = areaLoaded blank 4 linksA
 
 pub list-answers : (answers start calls ≡ expected)
     × (bookings (areaAtEnd start calls) ≡ circuit 8 1 three ∷ [])
-unfolding areaLoaded pathGiven releaseGiven quote admission booked release cleared tableIn circuitOf outcome search tried solve solveIn answerIn pathIn ebf rounds round column offered relaxed improved initialised filled cell cells traced stepBack trailBack noted follow distance layer spread problemOne problemTwo scaled iter first
+unfolding areaLoaded pathGiven releaseGiven quote admission booked release cleared tableIn circuitOf outcome search tried solve solveIn answerIn pathIn ebf rounds round column offered relaxed improved initialised filled cell cells traced stepBack placeBack noted follow distance layer spread problemOne problemTwo scaled iter first
 list-answers = (refl, refl)
 
 -- ---- quotes struck
@@ -59,10 +59,10 @@ pub struck-agree : (answers start unquoted ≡ remaining quotes-struck (answers 
 struck-agree = demand-met .struck blank accepted unquoted quotes-struck
 
 -- an admission is never struck
-kept : {c : ℕ} {ds : List Lending} → Struck (admitting (work 0) (room 0) c m3 ∷ []) ds → length ds ≡ 1
+kept : {c : ℕ} {ds : List Lending} → Struck (admitting (work 0) (path 0) c m3 ∷ []) ds → length ds ≡ 1
 kept (keep e end) = refl
 
-pub admission-stays : Struck (admitting (work 0) (room 0) 7 m3 ∷ []) [] → ⊥
+pub admission-stays : Struck (admitting (work 0) (path 0) 7 m3 ∷ []) [] → ⊥
 admission-stays s = omega (arith, kept s)
 
 -- and a call that remains keeps its numbers

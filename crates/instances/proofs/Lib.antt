@@ -1,3 +1,4 @@
+pub mod Ranges
 pub mod Paths
 pub mod Problems
 pub mod Searches

@@ -4,7 +4,7 @@ use Prim.Native.Nat.{ℕ, _*_}
 use mathlib.Core.Path.{_≡_, refl}
 use mathlib.Core.List.{List, [], _∷_, _++_}
 use native.Mathlib.Omega.{arith}
-use Rattle.link_format.specs.declared.Reading.the-variants.{Refused, Table}
+use Rattle.link_format.specs.declared.FileAnswer.the-variants.{Refused, Table}
 use Rattle.link_format.specs.Format.{bytesOfAll, trailer, letters, LinkFile}
 use Rattle.link_format.specs.Reading.{wordAt, signed, fills, recordWords, readAnswer, tableRead}
 use Rattle.link_format.proofs.LinkFiles.{reads-link-file}
@@ -33,7 +33,7 @@ is-file =
     }
 
 -- what is refused is none, whatever its numbers
-refused-none : (f : List ℕ) (k : ℕ) → ((room : ℕ) → readAnswer f room ≡ Refused k)
+refused-none : (f : List ℕ) (k : ℕ) → ((table : ℕ) → readAnswer f table ≡ Refused k)
     → (n m : ℕ) (ws : List ℕ) → LinkFile n m ws f
     → ⊥
 refused-none f k refused n m ws h =
@@ -44,12 +44,12 @@ refused-none f k refused n m ws h =
 -- no bytes at all
 pub none-no-file : (n m : ℕ) (ws : List ℕ) → LinkFile n m ws [] → ⊥
 unfolding readAnswer signed
-none-no-file = refused-none [] 17 (λ room. refl)
+none-no-file = refused-none [] 17 (λ table. refl)
 
 -- an offset that is one too small
 pub offset-no-file : (n m : ℕ) (ws : List ℕ) → LinkFile n m ws (file 1 1) → ⊥
 unfolding bytesOfAll readAnswer signed fills wordAt
-offset-no-file = refused-none (file 1 1) 18 (λ room. refl)
+offset-no-file = refused-none (file 1 1) 18 (λ table. refl)
 
 -- the reader: a file of 15 bytes, other letters in the end, 257 links, a wrong offset, a table that is a word too
 -- short; a file that is read, and the table after

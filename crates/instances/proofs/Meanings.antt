@@ -19,7 +19,7 @@ use Rattle.area.specs.Order.{Same}
 use Rattle.area.specs.Moves.{without, Untouched}
 use Rattle.area.specs.Held.{ListsHeld}
 use Rattle.area.specs.Refusals.{Rule, _when_, FirstApplies, Passes, Reply, refuses, grants, Answered}
-use Rattle.area.specs.declared.Reading.the-variants.{Refused, Value}
+use Rattle.area.specs.declared.ValueAnswer.the-variants.{Refused, Value}
 use Rattle.area.specs.Reads.{countOf, bufferAfter, listRules, ListMeans}
 use Rattle.rules.specs.declared.RequestAnswer.the-variants as request
 use Rattle.rules.specs.declared.ReleaseAnswer.the-variants as release
@@ -140,7 +140,7 @@ module _ (w l l' : List ℕ) where
       (h ≡ length ns)
       × (l' ≡ ns ++ drop (length ns) l)
       × (length ns ≡ length (station w .held))
-      × ((k : ℕ) → memb k ns ≡ holds (station w .held) k)
+      × ((c : ℕ) → memb c ns ≡ holds (station w .held) c)
       × Distinct ns
 
   pub list-granted : (h : ℕ) → ListMeans w l (Value h) l' → Passes list-rules × ((ns : List ℕ) × Written h ns)

@@ -9,13 +9,13 @@ use lib.ListN.{getD, length-replicate, List·getD-eq-default}
 use Rattle.area.specs.Station.{tableIn, circuitOf}
 use Rattle.area.specs.Formed.{heldFit}
 use Rattle.area.proofs.Formed.{formed-test}
-use Rattle.area.specs.Ready.{Held}
+use Rattle.area.specs.Parts.{Held}
 use Rattle.area.specs.FreeIn.{freeIn}
 use Rattle.rules.specs.Requests.{requestFits}
-use Rattle.rules.specs.Ready.{Seekable}
+use Rattle.rules.specs.SearchableArea.{SearchableArea}
 use Rattle.cases.specs.Document01.{linksA, m3}
 use Rattle.instances.specs.Areas.{freshA, heldA}
-use Rattle.instances.specs.Calls.{work, room}
+use Rattle.instances.specs.Calls.{work, path}
 use Rattle.instances.proofs.Areas.{fresh-formed, held-formed}
 
 -- ---- circuits that fit: the first of net A with circuit 7, and not a second
@@ -41,9 +41,9 @@ free-units (suc (suc zero)) = refl
 free-units (suc (suc (suc zero))) = refl
 free-units (suc (suc (suc (suc i)))) = past (suc (suc (suc (suc i)))) (omega arith)
 
-pub seekable : Seekable freshA (10 ∷ 10 ∷ 10 ∷ 10 ∷ []) (work 0) (room 0) m3
+pub searchable-area : SearchableArea freshA (10 ∷ 10 ∷ 10 ∷ 10 ∷ []) (work 0) (path 0) m3
 unfolding requestFits freshA
-seekable =
+searchable-area =
     record {
       formed = formed-test freshA fresh-formed;
       units = free-units;
@@ -52,5 +52,5 @@ seekable =
       request = refl;
     }
 
-pub not-seekable : Seekable freshA [] (work 0) (room 0) m3 → ⊥
-not-seekable h = omega (arith, h .units 0, free-units 0)
+pub not-searchable : SearchableArea freshA [] (work 0) (path 0) m3 → ⊥
+not-searchable h = omega (arith, h .units 0, free-units 0)

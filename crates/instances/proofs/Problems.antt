@@ -18,7 +18,7 @@ use Rattle.network.specs.Problem.{Problem, Solves, Best, NoSolution}
 use Rattle.network.specs.Reduce.{problemOne, problemTwo, one, two, WithinBounds, Enough, no-path, no-solution, granted, Found}
 use Rattle.network.proofs.Bounds.{one-distance}
 use Rattle.search.specs.ebf.Table.{cell, cells, filled, initialised, improved, relaxed, offered, column, round, rounds, ebf}
-use Rattle.search.specs.ebf.Trace.{trailBack, stepBack, traced}
+use Rattle.search.specs.ebf.Trace.{placeBack, stepBack, traced}
 use Rattle.search.specs.ebf.Solve.{pathIn, answerIn, solveIn, solve}
 use Rattle.search.proofs.ebf.Solved.{Solved, solved}
 use Rattle.area.specs.Formed.{LinkFits, linksFit}
@@ -52,7 +52,7 @@ computed : (answer (one netA m3 1) ≡ some three)
     × (answer (two netA m1 1) ≡ none)
     × (answer (one netA m4 1) ≡ none)
     × (answer (two netA m4 1) ≡ some three)
-unfolding netOf solve solveIn answerIn pathIn ebf rounds round column offered relaxed improved initialised filled cell cells traced stepBack trailBack noted follow member inserted problemOne problemTwo scaled iter first
+unfolding netOf solve solveIn answerIn pathIn ebf rounds round column offered relaxed improved initialised filled cell cells traced stepBack placeBack noted follow member inserted problemOne problemTwo scaled iter first
 computed = (refl, refl, refl, refl, refl)
 
 -- ---- M3: problem one has a solution, and a best one

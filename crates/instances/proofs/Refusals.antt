@@ -11,7 +11,7 @@ use Rattle.area.specs.Station.{station, tableIn, circuitOf}
 use Rattle.area.specs.Order.{alike}
 use Rattle.area.specs.Refusals.{Rule, _when_, FirstApplies, Passes, refuses, grants, Answered}
 use Rattle.area.specs.Reads.{listAnswer, listed, ListMeans}
-use Rattle.area.specs.declared.Reading.the-variants as reading
+use Rattle.area.specs.declared.ValueAnswer.the-variants as value
 use Rattle.area.proofs.Order.{count-same}
 use Rattle.area.proofs.Refusals.{one-first, none-first}
 use Rattle.area.proofs.ReadCases.{listed-as}
@@ -23,7 +23,7 @@ use Rattle.rules.proofs.Meaning.{quote-means}
 use Rattle.rules.proofs.Granting.{quoted-as}
 use Rattle.cases.specs.Document01.{m3, three}
 use Rattle.instances.specs.Areas.{freshA, heldA, twoA}
-use Rattle.instances.specs.Calls.{room}
+use Rattle.instances.specs.Calls.{path}
 use Rattle.instances.proofs.Areas.{seven, eight, held-formed, added-leaves}
 use Rattle.instances.proofs.Bookings.{quotes}
 use Rattle.instances.proofs.Meanings as meanings
@@ -60,15 +60,15 @@ not-four h = omega (arith, h .1)
 abbrev path-left : List ℕ
 path-left = three ++ replicate 28 0
 
-pub m3-means : QuoteMeans freshA 16384 (room 0) m3 (Granted (record { problem = 1; delay = 6; cost = 15; links = 3 })) path-left
+pub m3-means : QuoteMeans freshA 16384 (path 0) m3 (Granted (record { problem = 1; delay = 6; cost = 15; links = 3 })) path-left
 unfolding answerOf pathAfter
-m3-means = quoted-as freshA 16384 (room 0) m3 (granting 1 6 15 three) (sym (quotes .by-one)) _ refl path-left refl .1 .1
+m3-means = quoted-as freshA 16384 (path 0) m3 (granting 1 6 15 three) (sym (quotes .by-one)) _ refl path-left refl .1 .1
 
-pub m3-not-refused : (k : ℕ) (l' : List ℕ) → QuoteMeans freshA 16384 (room 0) m3 (Refused k) l' → ⊥
+pub m3-not-refused : (k : ℕ) (l' : List ℕ) → QuoteMeans freshA 16384 (path 0) m3 (Refused k) l' → ⊥
 m3-not-refused k l' h =
     none-first (quoteRules freshA 16384 31 m3 ++ searchRules (netFor freshA m3) m3) k
     (subst (Quoted freshA 16384 31 m3) (quotes .by-one) (quote-means freshA 16384 31 m3) .0)
-    (meanings.quote-refused freshA 16384 (room 0) m3 l' k h .0)
+    (meanings.quote-refused freshA 16384 (path 0) m3 l' k h .0)
 
 -- ---- an area that is rebooked: net A with circuit 7, and not with circuit 8 as well
 pub rebooked : Rebooked freshA heldA (seven ∷ [])
@@ -80,11 +80,11 @@ unfolding heldA freshA station tableIn circuitOf
 not-rebooked h = omega (arith, count-same (h .holds))
 
 -- ---- a listing of circuits 7 and 8: two numbers, and not one
-pub two-listed : ListMeans (twoA 8 10) (1 ∷ 1 ∷ 1 ∷ []) (reading.Value 2) (7 ∷ 8 ∷ 1 ∷ [])
+pub two-listed : ListMeans (twoA 8 10) (1 ∷ 1 ∷ 1 ∷ []) (value.Value 2) (7 ∷ 8 ∷ 1 ∷ [])
 unfolding listAnswer listed twoA tableIn circuitOf
-two-listed = listed-as (twoA 8 10) (1 ∷ 1 ∷ 1 ∷ []) (reading.Value 2) refl (7 ∷ 8 ∷ 1 ∷ []) refl .1 .1
+two-listed = listed-as (twoA 8 10) (1 ∷ 1 ∷ 1 ∷ []) (value.Value 2) refl (7 ∷ 8 ∷ 1 ∷ []) refl .1 .1
 
-pub one-unlisted : (l' : List ℕ) → ListMeans (twoA 8 10) (1 ∷ 1 ∷ 1 ∷ []) (reading.Value 1) l' → ⊥
+pub one-unlisted : (l' : List ℕ) → ListMeans (twoA 8 10) (1 ∷ 1 ∷ 1 ∷ []) (value.Value 1) l' → ⊥
 unfolding twoA station tableIn circuitOf
 one-unlisted l' h =
     let said = meanings.list-granted (twoA 8 10) (1 ∷ 1 ∷ 1 ∷ []) l' 1 h .1 .1 in omega (arith, said .0, said .2)

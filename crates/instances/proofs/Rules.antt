@@ -28,7 +28,7 @@ use Rattle.ledger.proofs.Demands.{third-demand, any-quote}
 use Rattle.cases.specs.Document01.{blank, linksA, m3, three}
 use Rattle.instances.specs.Nets.{netA, m1}
 use Rattle.instances.specs.Areas.{freshA, heldA}
-use Rattle.instances.specs.Calls.{work, room}
+use Rattle.instances.specs.Calls.{work, path}
 use Rattle.instances.proofs.Paths.{three-path, distance-one}
 use Rattle.instances.proofs.Problems.{m1-none-one, m1-none-two, m3-solves, m3-enough, found-unsolved}
 use Rattle.instances.proofs.Stations.{loads}
@@ -82,27 +82,27 @@ not-overqualifies h =
 
 -- ---- the ledger's refusals, of a quote on net A
 -- the third demand of a list of one quote
-demand : (r : Request) → ThirdDemand blank 4 linksA (quoting (work 0) (room 0) r ∷ [])
-demand r = third-demand 4 linksA blank (loads .loaded) (quoting (work 0) (room 0) r ∷ [])
+demand : (r : Request) → ThirdDemand blank 4 linksA (quoting (work 0) (path 0) r ∷ [])
+demand r = third-demand 4 linksA blank (loads .loaded) (quoting (work 0) (path 0) r ∷ [])
 
 -- it refuses M1 with 10, and with no other number
 pub refuses-ten : Refuses (books (opened 4 linksA)) (quoting 16384 31 m1) 10
 unfolding freshA
 refuses-ten = demand m1 .refusals .0 10 .0 (quotes .ten)
 
-pub refuses-ten-only : (k : ℕ) → Refuses (books (opened 4 linksA)) (quoting 16384 31 m1) k → k ≡ 10
+pub refuses-ten-only : (number : ℕ) → Refuses (books (opened 4 linksA)) (quoting 16384 31 m1) number → number ≡ 10
 unfolding freshA
-refuses-ten-only k h =
-    let same : refuses k ≡ refuses 10 = sym (demand m1 .refusals .0 k .1 h) ∙ quotes .ten in cc same
+refuses-ten-only number h =
+    let same : refuses number ≡ refuses 10 = sym (demand m1 .refusals .0 number .1 h) ∙ quotes .ten in cc same
 
 -- it refuses M3 with none
-pub refuses-none : (k : ℕ) → Refuses (books (opened 4 linksA)) (quoting 16384 31 m3) k → ⊥
+pub refuses-none : (number : ℕ) → Refuses (books (opened 4 linksA)) (quoting 16384 31 m3) number → ⊥
 unfolding freshA
-refuses-none k h = granted-not-refused _ k (sym (demand m3 .refusals .0 k .1 h) ∙ quotes .by-one)
+refuses-none number h = granted-not-refused _ number (sym (demand m3 .refusals .0 number .1 h) ∙ quotes .by-one)
 
 -- ---- the path granted for M3, with its problem and totals
 abbrev granted : ℕ → ℕ → ℕ → PathGrant
-granted k d x = record { problem = k; delay = d; cost = x; path = three }
+granted which d c = record { problem = which; delay = d; cost = c; path = three }
 
 pub granted-path : GrantedPath (netFor freshA m3) m3 (granted 1 6 15)
 granted-path = any-quote freshA 16384 31 m3 (granted 1 6 15) (quotes .by-one)
@@ -116,7 +116,7 @@ cost-invented h = omega (arith, h .cost, granted-path .cost)
 
 -- nor by problem two, which counts only where problem one has no solution
 abbrev By : ℕ → Type 0
-By k = ((k ≡ 1) × GrantedByOne (netFor freshA m3) m3 three) ⊎ ((k ≡ 2) × GrantedByTwo (netFor freshA m3) m3 three)
+By which = ((which ≡ 1) × GrantedByOne (netFor freshA m3) m3 three) ⊎ ((which ≡ 2) × GrantedByTwo (netFor freshA m3) m3 three)
 
 pub problem-wrong : GrantedPath (netFor freshA m3) m3 (granted 2 6 15) → ⊥
 problem-wrong h = go (h .least) (granted-path .least)

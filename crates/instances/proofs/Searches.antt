@@ -13,7 +13,7 @@ use lib.ListN.{replicate, length-replicate}
 use Rattle.network.specs.Loops.{iter, every}
 use Rattle.network.proofs.Loops.{every-at}
 use Rattle.network.specs.Net.{Net, Ends}
-use Rattle.network.specs.Words.{netOf, LinkWords}
+use Rattle.network.specs.Words.{netOf, LinkFields}
 use Rattle.network.specs.Scale.{scaled}
 use Rattle.network.specs.Problem.{Problem}
 use Rattle.network.specs.Reduce.{Outcome, no-path, no-solution, granted, problemOne, one, asking}
@@ -24,11 +24,12 @@ use Rattle.search.specs.Result.{Ready, Searchable, Unsolved, GrantedByOne, Gran
 use Rattle.search.proofs.Result.{ready-searchable}
 use Rattle.cases.specs.Document01.{linksA, m3, three}
 use Rattle.instances.specs.Nets.{netA, shutA, straight, m1, m4}
+use Rattle.instances.proofs.Ranges.{m3-terms}
 use Rattle.instances.proofs.Paths.{three-path, distance-one, shut-no-path}
 use Rattle.instances.proofs.Problems.{links-fit, m3-solves, m3-enough, m1-none-one, m1-none-two, m4-none-one, straight-over}
 
 -- ---- the ranges and lengths
-pub link-words : LinkWords 4 4 linksA
+pub link-words : LinkFields 4 4 linksA
 link-words =
     record {
       whole = refl;
@@ -39,7 +40,7 @@ link-words =
     }
 
 -- not between three nodes: link 2 leads to node 3
-pub link-words-high : LinkWords 3 4 linksA → ⊥
+pub link-words-high : LinkFields 3 4 linksA → ⊥
 link-words-high h = let high = h .to 2 (omega arith) in omega (arith, high)
 
 -- the ends of net A's links are nodes of four (`ends` of Problems.antt), and not of three
@@ -58,12 +59,7 @@ ready =
       source = omega arith;
       target = omega arith;
       apart = λ e. omega (arith, e);
-      delay-some = omega arith;
-      delay-most = omega arith;
-      cost-some = omega arith;
-      cost-most = omega arith;
-      coefficient-some = omega arith;
-      coefficient-most = omega arith;
+      terms = m3-terms;
     }
 
 -- not with a word less of work memory
@@ -113,9 +109,9 @@ module _ (o : Outcome) where
   pub no-third : Result netA m3 o → (p : List ℕ) → o ≡ granted 3 p → ⊥
   no-third h p e = third 3 refl (h .no-other 3 p e)
     where
-      third : (k : ℕ) → k ≡ 3 → (k ≡ 1) ⊎ (k ≡ 2) → ⊥
-      third k is (inl f) = omega (arith, is, f)
-      third k is (inr f) = omega (arith, is, f)
+      third : (which : ℕ) → which ≡ 3 → (which ≡ 1) ⊎ (which ≡ 2) → ⊥
+      third which is (inl f) = omega (arith, is, f)
+      third which is (inr f) = omega (arith, is, f)
 
   -- M3 is granted, since its path is overqualified, and not by link 3, which is over the bound of delay
   pub m3-granted : Result netA m3 o → (which : ℕ) × (p : List ℕ) × (o ≡ granted which p)

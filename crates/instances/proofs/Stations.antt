@@ -5,7 +5,7 @@ use mathlib.Core.List.{[], _∷_}
 use lib.ListN.{replicate}
 use Rattle.area.specs.Station.{tableIn, circuitOf}
 use Rattle.area.specs.declared.Loading.the-variants as loading
-use Rattle.area.specs.declared.Reading.the-variants.{Refused, Value}
+use Rattle.area.specs.declared.ValueAnswer.the-variants.{Refused, Value}
 use Rattle.area.specs.Load.{loadAnswer, areaLoaded}
 use Rattle.area.specs.Reads.{listAnswer, listed, freeAnswer}
 use Rattle.cases.specs.Document01.{blank, linksA}

@@ -17,18 +17,18 @@ use Rattle.instances.specs.Nets.{m4}
 abbrev pub work : ℕ → List ℕ
 work v = replicate 16384 v
 
-abbrev pub room : ℕ → List ℕ
-room v = replicate 31 v
+abbrev pub path : ℕ → List ℕ
+path v = replicate 31 v
 
 abbrev quotes : Request → Lending
-quotes r = quoting (work 0) (room 0) r
+quotes r = quoting (work 0) (path 0) r
 
 abbrev admits : ℕ → ℕ → Request → Lending
-admits v c r = admitting (work v) (room v) c r
+admits v c r = admitting (work v) (path v) c r
 
 abbrev pub calls : List Lending
 calls =
-    quoting (replicate 8 0) (room 0) m3
+    quoting (replicate 8 0) (path 0) m3
     ∷ quoting (work 0) (replicate 8 0) m3
     ∷ quotes (asking 0 0 1 8 20 8)
     ∷ admits 0 7 (asks 4 8 20 8)

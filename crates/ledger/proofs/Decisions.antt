@@ -18,8 +18,8 @@ use Rattle.area.specs.Refusals.{Rule, _when_, refuses, grants, Answered}
 use Rattle.area.specs.Formed.{WellFormed}
 use Rattle.area.specs.Checks.{Check, firstFailing, unlessRefused, checked}
 use Rattle.area.specs.declared.Loading.the-variants as loading
-use Rattle.area.specs.declared.Reading.{Reading}
-use Rattle.area.specs.declared.Reading.the-variants as reading
+use Rattle.area.specs.declared.ValueAnswer.{ValueAnswer}
+use Rattle.area.specs.declared.ValueAnswer.the-variants as value
 use Rattle.area.specs.Load.{loadChecks, loaded, loadAnswer, areaLoaded}
 use Rattle.area.specs.Reads.{listChecks, listAnswer, listed, freeChecks, freeAnswer}
 use Rattle.area.proofs.Refusals.{numbersOf, first-among}
@@ -36,9 +36,9 @@ use Rattle.rules.specs.Classes.{classAnswer}
 use Rattle.rules.specs.Allowed.{numberRules, releaseRules, searchRules}
 use Rattle.rules.specs.Meaning.{booksIn, quoteRules, netFor}
 use Rattle.rules.proofs.Meaning.{quote-means, admission-means, release-means}
-use Rattle.link_format.specs.declared.Reading.{Reading as FileReading}
+use Rattle.link_format.specs.declared.FileAnswer.{FileAnswer}
 use Rattle.link_format.specs.declared.Size.{Size}
-use Rattle.link_format.specs.declared.Reading.the-variants as file
+use Rattle.link_format.specs.declared.FileAnswer.the-variants as file
 use Rattle.link_format.specs.Reading.{readChecks, readAnswer, tableRead}
 use Rattle.ledger.specs.Demand.{Decided, FirstDemand}
 
@@ -76,14 +76,14 @@ without-words Granted refused cs a g = go (by-checks Granted refused cs a g [] [
 -- a request's reply, where a refusal keeps what it leaves
 by-rules : (G : PathGrant → Type 0) (rs : List Rule) (Kept : PathReply → Type 0) → ((k : ℕ) → Kept (refuses k))
     → (a : PathReply) → Answered G rs a
-    → Decided (λ (x : RequestAnswer). (g : Numbers) × (x ≡ request.Granted g)) request.Refused (numbersOf rs) (Kept a) (answerOf a)
+    → Decided (λ (said : RequestAnswer). (g : Numbers) × (said ≡ request.Granted g)) request.Refused (numbersOf rs) (Kept a) (answerOf a)
 unfolding answerOf
 by-rules G rs Kept keeps (refuses k) h = inr (k, first-among rs k h, refl, keeps k)
 by-rules G rs Kept keeps (grants b) h = inl (_, refl)
 
 release-decided : (rs : List Rule) (Kept : ReleaseReply → Type 0) → ((k : ℕ) → Kept (refuses k))
     → (a : ReleaseReply) → Answered (λ _. Unit {0}) rs a
-    → Decided (λ (x : ReleaseAnswer). x ≡ release.Released) release.Refused (numbersOf rs) (Kept a) (releaseAnswerOf a)
+    → Decided (λ (said : ReleaseAnswer). said ≡ release.Released) release.Refused (numbersOf rs) (Kept a) (releaseAnswerOf a)
 unfolding releaseAnswerOf
 release-decided rs Kept keeps (refuses k) h = inr (k, first-among rs k h, refl, keeps k)
 release-decided rs Kept keeps (grants _) h = inl refl
@@ -111,13 +111,13 @@ every-call-decided =
           (calls.release w c)
           (release-means w c);
       list = λ w l.
-          by-checks (λ (a : Reading). (h : ℕ) × (a ≡ reading.Value h)) reading.Refused (listChecks w (length l)) _ (_, refl) l _;
+          by-checks (λ (a : ValueAnswer). (h : ℕ) × (a ≡ value.Value h)) value.Refused (listChecks w (length l)) _ (_, refl) l _;
       free-units = λ w i.
-          without-words (λ (a : Reading). (u : ℕ) × (a ≡ reading.Value u)) reading.Refused (freeChecks w i) _ (_, refl);
-      class = λ k.
-          by-test (leb k 5) _ _ (Decided (λ (a : ClassAnswer). (s : Service) × (a ≡ class.Row s)) class.Refused (16 ∷ []) (Unit {0}))
+          without-words (λ (a : ValueAnswer). (u : ℕ) × (a ≡ value.Value u)) value.Refused (freeChecks w i) _ (_, refl);
+      class = λ c.
+          by-test (leb c 5) _ _ (Decided (λ (a : ClassAnswer). (s : Service) × (a ≡ class.Row s)) class.Refused (16 ∷ []) (Unit {0}))
           (λ _. inl (_, refl))
           (λ _. inr (16, refl, refl, tt));
       link-file = λ f t.
-          by-checks (λ (a : FileReading). (s : Size) × (a ≡ file.Table s)) file.Refused (readChecks f (length t)) _ (_, refl) t _;
+          by-checks (λ (a : FileAnswer). (s : Size) × (a ≡ file.Table s)) file.Refused (readChecks f (length t)) _ (_, refl) t _;
     }

@@ -78,9 +78,9 @@ module _ (n : ℕ) (links : List ℕ) where
     second-demand = throughout w accepted _ paths-granted cs
 
 -- ---- the second demand on any words at all, loaded or not
-module _ (w : List ℕ) (work room : ℕ) (r : Request) where
-  pub any-quote : PathsGranted (netFor w r) r (quote w work room r)
-  any-quote = paths-past-five w work room r _ _ (quote-means w work room r)
+module _ (w : List ℕ) (work path : ℕ) (r : Request) where
+  pub any-quote : PathsGranted (netFor w r) r (quote w work path r)
+  any-quote = paths-past-five w work path r _ _ (quote-means w work path r)
 
-  pub any-admission : (c : ℕ) → PathsGranted (netFor w r) r (admission w work room c r)
-  any-admission c = paths-past-five w work room r _ _ (admission-means w work room r c)
+  pub any-admission : (c : ℕ) → PathsGranted (netFor w r) r (admission w work path c r)
+  any-admission c = paths-past-five w work path r _ _ (admission-means w work path r c)

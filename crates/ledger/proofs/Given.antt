@@ -12,22 +12,22 @@ use Rattle.ledger.specs.Entries.{Call, quoting, admitting, releasing, Re
 use Rattle.ledger.specs.History.{Lending, measured, buffer, of-request, pathGiven, given, givenBy, Event, replyTo, areaAfter, history, answers}
 
 -- the first l words are the granted path, l being the number of links that is answered
-path-given : (room : List ℕ) (a : PathReply) → pathGiven room a ≡ of-request (answerOf a) (pathOf a)
+path-given : (path : List ℕ) (a : PathReply) → pathGiven path a ≡ of-request (answerOf a) (pathOf a)
 unfolding pathGiven
-path-given room (refuses k) = refl
-path-given room (grants g) = ap (of-request (answerOf (grants g))) (take-append-seam (g .path) (drop (length (g .path)) room))
+path-given path (refuses k) = refl
+path-given path (grants g) = ap (of-request (answerOf (grants g))) (take-append-seam (g .path) (drop (length (g .path)) path))
 
-pub given-is : (room : List ℕ) (q : Call ℕ) (a : ReplyTo q) → given room q a ≡ givenBy q a
-given-is room (quoting work len r) a = path-given room a
-given-is room (admitting work len c r) a = path-given room a
-given-is room (releasing c) a = refl
+pub given-is : (path : List ℕ) (q : Call ℕ) (a : ReplyTo q) → given path q a ≡ givenBy q a
+given-is path (quoting work len r) a = path-given path a
+given-is path (admitting work len c r) a = path-given path a
+given-is path (releasing c) a = refl
 
 -- equal calls with equal replies give equal answers, whatever the path buffers held
-pub given-alike : (room room' : List ℕ) {d e : Event} → d ≡ e → given room (d .call) (d .reply) ≡ given room' (e .call) (e .reply)
-given-alike room room' {d = d} {e = e} same =
-    given-is room (d .call) (d .reply)
+pub given-alike : (path path' : List ℕ) {d e : Event} → d ≡ e → given path (d .call) (d .reply) ≡ given path' (e .call) (e .reply)
+given-alike path path' {d = d} {e = e} same =
+    given-is path (d .call) (d .reply)
     ∙ ap (λ (f : Event). givenBy (f .call) (f .reply)) same
-    ∙ sym (given-is room' (e .call) (e .reply))
+    ∙ sym (given-is path' (e .call) (e .reply))
 
 -- each answer of a list is what its reply says
 pub answers-given : (w : List ℕ) (cs : List Lending)

@@ -23,10 +23,10 @@ says-agree l m q a agrees = subst (λ (o : Books). Says o q a) (books-agree agre
 
 -- and it moves alike
 moved-agree : (q : Call ℕ) (path : Option (List ℕ)) (l m : Ledger) → Agrees l m → Agrees (moved l q path) (moved m q path)
-moved-agree (quoting work room r) path l m h = h
-moved-agree (admitting work room c r) none l m h = h
-moved-agree (admitting work room c r) (some p) l m h = record { table = h .table; held = skip (h .held) }
-moved-agree (releasing c) path l m h = record { table = h .table; held = without-same c (h .held) }
+moved-agree (quoting work path r) granted l m h = h
+moved-agree (admitting work path c r) none l m h = h
+moved-agree (admitting work path c r) (some p) l m h = record { table = h .table; held = skip (h .held) }
+moved-agree (releasing c) granted l m h = record { table = h .table; held = without-same c (h .held) }
 
 -- ---- the ledger beside the area
 -- one call keeps them in agreement

@@ -28,8 +28,8 @@ refused-as o q a = refused-exactly (Grants o q) (rules o q) a
 
 -- no rule has the number 5
 five-not-among : (o : Books) (q : Call ℕ) → memb 5 (numbersOf (rules o q)) ≡ false
-five-not-among o (quoting work room r) = refl
-five-not-among o (admitting work room c r) = refl
+five-not-among o (quoting work path r) = refl
+five-not-among o (admitting work path c r) = refl
 five-not-among o (releasing c) = refl
 
 pub not-five : (o : Books) (q : Call ℕ) (a : ReplyTo q) → Says o q a → a ≡ refuses 5 → ⊥
@@ -42,56 +42,56 @@ answered o q a h b e = subst (Says o q) e h .1
 -- a refused call leaves the ledger alone, and a quote does by `moved`: where a release is refused, no entry has its number
 pub refused-alone : (l : Ledger) (q : Call ℕ) (k : ℕ) → Says (books l) q (refuses k) → moved l q (told q (refuses k)) ≡ l
 unfolding books
-refused-alone l (quoting work room r) k h = refl
-refused-alone l (admitting work room c r) k h = refl
+refused-alone l (quoting work path r) k h = refl
+refused-alone l (admitting work path c r) k h = refl
 refused-alone l (releasing c) k (inl (lacks, e)) = unheld-stays l c lacks
 refused-alone l (releasing c) k (inr (m, h)) = absurd h
 
 -- ---- past the checks
 pub exactly-refused : (o : Books) (q : Call ℕ) (a : ReplyTo q) → Says o q a → Passes (checks o q)
     → OfRequest (λ g r b. IsRefused b ↔ (Solvable g r → ⊥)) o q a
-exactly-refused o (quoting work room r) a h n = search-exactly (seen o r) r a (past _ (checks o (quoting work room r)) _ a n h)
-exactly-refused o (admitting work room c r) a h n =
-    search-exactly (seen o r) r a (past _ (checks o (admitting work room c r)) _ a n h)
+exactly-refused o (quoting work path r) a h n = search-exactly (seen o r) r a (past _ (checks o (quoting work path r)) _ a n h)
+exactly-refused o (admitting work path c r) a h n =
+    search-exactly (seen o r) r a (past _ (checks o (admitting work path c r)) _ a n h)
 exactly-refused o (releasing c) a h n = tt
 
 -- past rule 8, the third, a request fits
-module _ (o : Books) (work room : ℕ) (r : Request) (rs : List Rule) (n : Passes (requestRules o work room r ++ rs)) where
+module _ (o : Books) (work path : ℕ) (r : Request) (rs : List Rule) (n : Passes (requestRules o work path r ++ rs)) where
   fits : RequestFits (o .table .nodes) r
   fits = request-past (o .table .nodes) r (n .1 .1 .0)
 
   enough : (a : PathReply) → Answered (Grant (seen o r) r) (searchRules (seen o r) r) a → Overqualifies (seen o r) r → IsGranted a
-  enough a h = search-enough (seen o r) r (fits .delay-least) (fits .cost-least) a h
+  enough a h = search-enough (seen o r) r (fits .terms .delay-least) (fits .terms .cost-least) a h
 
   granted-path : (b : PathGrant) → Grant (seen o r) r b → GrantedPath (seen o r) r b
   granted-path b h = grant-path-granted (seen o r) r (o .table .nodes) fits b h
 
 pub enough-granted : (o : Books) (q : Call ℕ) (a : ReplyTo q) → Says o q a → Passes (checks o q)
     → OfRequest (λ g r b. Overqualifies g r → IsGranted b) o q a
-enough-granted o (quoting work room r) a h n =
-    enough o work room r [] n a (past _ (checks o (quoting work room r)) _ a n h)
-enough-granted o (admitting work room c r) a h n =
-    enough o work room r (numberRules o c) n a (past _ (checks o (admitting work room c r)) _ a n h)
+enough-granted o (quoting work path r) a h n =
+    enough o work path r [] n a (past _ (checks o (quoting work path r)) _ a n h)
+enough-granted o (admitting work path c r) a h n =
+    enough o work path r (numberRules o c) n a (past _ (checks o (admitting work path c r)) _ a n h)
 enough-granted o (releasing c) a h n = tt
 
 -- ---- granted paths
 -- by the rules of a request, whatever rules follow
-paths-past : (o : Books) (work room : ℕ) (r : Request) (rs : List Rule) (a : PathReply)
-    → Answered (Grant (seen o r) r) (requestRules o work room r ++ rs) a
+paths-past : (o : Books) (work path : ℕ) (r : Request) (rs : List Rule) (a : PathReply)
+    → Answered (Grant (seen o r) r) (requestRules o work path r ++ rs) a
     → PathsGranted (seen o r) r a
-paths-past o work room r rs a h b e =
-    let on = subst (Answered (Grant (seen o r) r) (requestRules o work room r ++ rs)) e h in
-    granted-path o work room r rs (on .0) b (on .1)
+paths-past o work path r rs a h b e =
+    let on = subst (Answered (Grant (seen o r) r) (requestRules o work path r ++ rs)) e h in
+    granted-path o work path r rs (on .0) b (on .1)
 
 pub paths-granted : (o : Books) (q : Call ℕ) (a : ReplyTo q) → Says o q a → OfRequest PathsGranted o q a
-paths-granted o (quoting work room r) a h = paths-past o work room r _ a h
-paths-granted o (admitting work room c r) a h = paths-past o work room r _ a h
+paths-granted o (quoting work path r) a h = paths-past o work path r _ a h
+paths-granted o (admitting work path c r) a h = paths-past o work path r _ a h
 paths-granted o (releasing c) a h = tt
 
 -- the same of an area, where 5 is the first rule
-pub paths-past-five : (w : List ℕ) (work room : ℕ) (r : Request) (rs : List Rule) (a : PathReply)
-    → Answered (Grant (netFor w r) r) (quoteRules w work room r ++ rs) a
+pub paths-past-five : (w : List ℕ) (work path : ℕ) (r : Request) (rs : List Rule) (a : PathReply)
+    → Answered (Grant (netFor w r) r) (quoteRules w work path r ++ rs) a
     → PathsGranted (netFor w r) r a
-paths-past-five w work room r rs a h b e =
-    let on = subst (Answered (Grant (netFor w r) r) (quoteRules w work room r ++ rs)) e h in
-    granted-path (booksIn w) work room r rs (on .0 .1) b (on .1)
+paths-past-five w work path r rs a h b e =
+    let on = subst (Answered (Grant (netFor w r) r) (quoteRules w work path r ++ rs)) e h in
+    granted-path (booksIn w) work path r rs (on .0 .1) b (on .1)

@@ -37,9 +37,9 @@ module _ (g : Net) (r : Request) where
 
   -- refused exactly when no usable path solves either problem
   pub search-exactly : (a : PathReply) → Answered (Grant g r) (searchRules g r) a → IsRefused a ↔ (Solvable g r → ⊥)
-  search-exactly (refuses k) (inl (none, e)) = (λ _ s. none (s .1 .reached .0) (s .1 .reached .1), λ _. (k, refl))
-  search-exactly (refuses k) (inr (_, inl (none, e))) = (λ _. unsolvable none, λ _. (k, refl))
-  search-exactly (refuses k) (inr (_, inr (_, h))) = absurd h
+  search-exactly (refuses number) (inl (none, e)) = (λ _ s. none (s .1 .reached .0) (s .1 .reached .1), λ _. (number, refl))
+  search-exactly (refuses number) (inr (_, inl (none, e))) = (λ _. unsolvable none, λ _. (number, refl))
+  search-exactly (refuses number) (inr (_, inr (_, h))) = absurd h
   search-exactly (grants b) h =
       (λ refused. absurd (granted-not-refused b (refused .0) (sym (refused .1))), λ none. absurd (none (grant-solvable b (h .1))))
 
@@ -53,22 +53,22 @@ module _ (g : Net) (r : Request) where
 
     -- an overqualified path is always enough
     pub search-enough : (a : PathReply) → Answered (Grant g r) (searchRules g r) a → Overqualifies g r → IsGranted a
-    search-enough (refuses k) (inl (none, e)) o = absurd (none (o .2 .0) (o .2 .1))
-    search-enough (refuses k) (inr (_, inl (none, e))) o = absurd (unsolvable none (overqualified-solvable o))
-    search-enough (refuses k) (inr (_, inr (_, h))) o = absurd h
+    search-enough (refuses number) (inl (none, e)) o = absurd (none (o .2 .0) (o .2 .1))
+    search-enough (refuses number) (inr (_, inl (none, e))) o = absurd (unsolvable none (overqualified-solvable o))
+    search-enough (refuses number) (inr (_, inr (_, h))) o = absurd h
     search-enough (grants b) h o = (b, refl)
 
   module _ (n : ℕ) (fits : RequestFits n r) where
     x-some : (k : ℕ) → Distance g (r .source) (r .target) k → 0 < r .coefficient * k
-    x-some k far = x-positive g (r .source) (r .target) k (r .coefficient) (fits .apart) (fits .coefficient-least) far
+    x-some k far = x-positive g (r .source) (r .target) k (r .coefficient) (fits .apart) (fits .terms .coefficient-least) far
 
     -- a best solution of either problem is a path within both bounds
-    by-either : (p : List ℕ) (k : ℕ) → ((k ≡ 1) × GrantedByOne g r p) ⊎ ((k ≡ 2) × GrantedByTwo g r p)
+    by-either : (p : List ℕ) (which : ℕ) → ((which ≡ 1) × GrantedByOne g r p) ⊎ ((which ≡ 2) × GrantedByTwo g r p)
         → IsPath g (r .source) (r .target) p × WithinBounds g r p
-    by-either p k (inl (e, h)) =
-        (h .2 .solves .path, solution-one-within g r (r .coefficient * h .0) p (x-some (h .0) (h .1)) (fits .cost-least) (h .2 .solves))
-    by-either p k (inr (e, h)) =
-        (h .3 .solves .path, solution-two-within g r (r .coefficient * h .0) p (x-some (h .0) (h .1)) (fits .delay-least) (h .3 .solves))
+    by-either p which (inl (e, h)) =
+        (h .2 .solves .path, solution-one-within g r (r .coefficient * h .0) p (x-some (h .0) (h .1)) (fits .terms .cost-least) (h .2 .solves))
+    by-either p which (inr (e, h)) =
+        (h .3 .solves .path, solution-two-within g r (r .coefficient * h .0) p (x-some (h .0) (h .1)) (fits .terms .delay-least) (h .3 .solves))
 
     -- the second demand, of one granted path
     pub grant-path-granted : (a : PathGrant) → Grant g r a → GrantedPath g r a

@@ -37,19 +37,19 @@ module _ (w : List ℕ) (formed : WellFormed w) where
   past-five q a h = past (Grants (booksIn w) q) ((5 when (WellFormed w → ⊥)) ∷ []) (rules (booksIn w) q) a (λ lacks. lacks formed, tt) h
 
   pub says : (c : Lending) → Says (booksIn w) (measured c) (replyTo w c)
-  says (quoting work room r) =
-      past-five (measured (quoting work room r)) (quote w (length work) (length room) r) (quote-means w (length work) (length room) r)
-  says (admitting work room c r) =
-      past-five (measured (admitting work room c r)) (admission w (length work) (length room) c r)
-      (admission-means w (length work) (length room) r c)
+  says (quoting work path r) =
+      past-five (measured (quoting work path r)) (quote w (length work) (length path) r) (quote-means w (length work) (length path) r)
+  says (admitting work path c r) =
+      past-five (measured (admitting work path c r)) (admission w (length work) (length path) c r)
+      (admission-means w (length work) (length path) r c)
   says (releasing c) = past-five (releasing c) (release w c) (release-means w c)
 
   -- the circuits after an admission, by its reply
-  admits : (work room c : ℕ) (r : Request) (a : PathReply) → admission w work room c r ≡ a
-      → Agrees (station (booked w c (r .units) a)) (moved (station w) (admitting work room c r) (told (admitting work room c r) a))
+  admits : (work path c : ℕ) (r : Request) (a : PathReply) → admission w work path c r ≡ a
+      → Agrees (station (booked w c (r .units) a)) (moved (station w) (admitting work path c r) (told (admitting work path c r) a))
   unfolding booked
-  admits work room c r (refuses k) e = agrees-refl (station w)
-  admits work room c r (grants g) e = agrees-eq (admitted-station w work room c r g e)
+  admits work path c r (refuses k) e = agrees-refl (station w)
+  admits work path c r (grants g) e = agrees-eq (admitted-station w work path c r g e)
 
   -- the circuits after a release, by its reply
   frees : (c : ℕ) (a : ReleaseReply) → release w c ≡ a → Says (booksIn w) (releasing c) a → Agrees (station (cleared w c a)) (withoutNumber (station w) c)
@@ -59,33 +59,33 @@ module _ (w : List ℕ) (formed : WellFormed w) where
   frees c (grants _) e h = agrees-eq (released-station w c e)
 
   pub moves : (c : Lending) → Agrees (station (areaAfter w c)) (after (station w) (event w c))
-  moves (quoting work room r) = agrees-refl (station w)
-  moves (admitting work room c r) = admits (length work) (length room) c r (admission w (length work) (length room) c r) refl
+  moves (quoting work path r) = agrees-refl (station w)
+  moves (admitting work path c r) = admits (length work) (length path) c r (admission w (length work) (length path) c r) refl
   moves (releasing c) = frees c (release w c) refl (says (releasing c))
 
   pub keeps : (c : Lending) → WellFormed (areaAfter w c)
-  keeps (quoting work room r) = formed
-  keeps (admitting work room c r) = admitted-formed w (length work) (length room) c r formed
+  keeps (quoting work path r) = formed
+  keeps (admitting work path c r) = admitted-formed w (length work) (length path) c r formed
   keeps (releasing c) = released-formed w c formed
 
 -- ---- what a reply goes by
 -- its numbers, the lengths of what it is lent, and the books
 abbrev replyBy : List ℕ → (q : Call ℕ) → ReplyTo q
-replyBy w (quoting work room r) = quote w work room r
-replyBy w (admitting work room c r) = admission w work room c r
+replyBy w (quoting work path r) = quote w work path r
+replyBy w (admitting work path c r) = admission w work path c r
 replyBy w (releasing c) = release w c
 
 abbrev eventBy : List ℕ → Call ℕ → Event
 eventBy w q = record { call = q; reply = replyBy w q }
 
 event-measured : (w : List ℕ) (c : Lending) → event w c ≡ eventBy w (measured c)
-event-measured w (quoting work room r) = refl
-event-measured w (admitting work room c r) = refl
+event-measured w (quoting work path r) = refl
+event-measured w (admitting work path c r) = refl
 event-measured w (releasing c) = refl
 
 reply-depends : (w w' : List ℕ) (q : Call ℕ) → wellFormed w ≡ wellFormed w' → booksIn w ≡ booksIn w' → replyBy w q ≡ replyBy w' q
-reply-depends w w' (quoting work room r) formed same = quote-depends w w' work room r formed same
-reply-depends w w' (admitting work room c r) formed same = admission-depends w w' work room c r formed same
+reply-depends w w' (quoting work path r) formed same = quote-depends w w' work path r formed same
+reply-depends w w' (admitting work path c r) formed same = admission-depends w w' work path c r formed same
 reply-depends w w' (releasing c) formed same = release-depends w w' c formed same
 
 -- two well-formed areas with the same circuits answer calls with the same numbers and lengths alike

@@ -12,17 +12,17 @@ use Rattle.ledger.specs.History.{Lending, measured, replyTo, areaAfter, 
 abbrev chosen : List Bool → List Lending → List Lending
 chosen choices [] = []
 chosen [] (c ∷ cs) = c ∷ chosen [] cs
-chosen (true ∷ choices) (quoting work room r ∷ cs) = chosen choices cs
-chosen (false ∷ choices) (quoting work room r ∷ cs) = quoting work room r ∷ chosen choices cs
-chosen (b ∷ choices) (admitting work room c r ∷ cs) = admitting work room c r ∷ chosen choices cs
+chosen (true ∷ choices) (quoting work path r ∷ cs) = chosen choices cs
+chosen (false ∷ choices) (quoting work path r ∷ cs) = quoting work path r ∷ chosen choices cs
+chosen (b ∷ choices) (admitting work path c r ∷ cs) = admitting work path c r ∷ chosen choices cs
 chosen (b ∷ choices) (releasing c ∷ cs) = releasing c ∷ chosen choices cs
 
 pub any-quotes : (choices : List Bool) (cs : List Lending) → Struck cs (chosen choices cs)
 any-quotes choices [] = end
 any-quotes [] (c ∷ cs) = keep refl (any-quotes [] cs)
-any-quotes (true ∷ choices) (quoting work room r ∷ cs) = strike (any-quotes choices cs)
-any-quotes (false ∷ choices) (quoting work room r ∷ cs) = keep refl (any-quotes choices cs)
-any-quotes (b ∷ choices) (admitting work room c r ∷ cs) = keep refl (any-quotes choices cs)
+any-quotes (true ∷ choices) (quoting work path r ∷ cs) = strike (any-quotes choices cs)
+any-quotes (false ∷ choices) (quoting work path r ∷ cs) = keep refl (any-quotes choices cs)
+any-quotes (b ∷ choices) (admitting work path c r ∷ cs) = keep refl (any-quotes choices cs)
 any-quotes (b ∷ choices) (releasing c ∷ cs) = keep refl (any-quotes choices cs)
 
 -- no quote struck

@@ -17,7 +17,7 @@ use Rattle.area.specs.Books.{Books}
 use Rattle.area.specs.Order.{Same}
 use Rattle.area.specs.Refusals.{Passes, refuses, grants, IsRefused, IsGranted}
 use Rattle.area.specs.declared.Loading.the-variants as loading
-use Rattle.area.specs.declared.Reading.the-variants as reading
+use Rattle.area.specs.declared.ValueAnswer.the-variants as value
 use Rattle.area.specs.Load.{loadAnswer, areaLoaded}
 use Rattle.area.specs.Reads.{listAnswer, listed, freeAnswer}
 use Rattle.rules.specs.declared.Service.{Service}
@@ -28,7 +28,7 @@ use Rattle.rules.specs.Replies.{PathGrant, PathReply, answerOf, pathAfter, rele
 use Rattle.rules.specs.Calls as calls
 use Rattle.rules.specs.Classes.{classAnswer}
 use Rattle.link_format.specs.declared.Size.{Size}
-use Rattle.link_format.specs.declared.Reading.the-variants as file
+use Rattle.link_format.specs.declared.FileAnswer.the-variants as file
 use Rattle.link_format.specs.Reading.{readAnswer, tableRead}
 use Rattle.ledger.specs.Entries.{Call, Granting, ReplyTo, opened, checks, Refuses, Grants}
 use Rattle.ledger.specs.History.{Lending, givenBy, Event, history, answers, areaAtEnd, bookings, atEnd, Struck, remaining}
@@ -49,19 +49,19 @@ pub record FirstDemand : Type 0 where
       → Decided (λ a. a ≡ loading.Loaded) loading.Refused (1 ∷ 2 ∷ 3 ∷ 4 ∷ []) (areaLoaded w n links ≡ w) (loadAnswer w n links)
   pub quote : (w : List ℕ) (work : ℕ) (l : List ℕ) (r : Request)
       → let a = calls.quote w work (length l) r in
-      Decided (λ x. (g : Numbers) × (x ≡ request.Granted g)) request.Refused (5 ∷ 6 ∷ 7 ∷ 8 ∷ 9 ∷ 10 ∷ []) (pathAfter a l ≡ l) (answerOf a)
+      Decided (λ said. (g : Numbers) × (said ≡ request.Granted g)) request.Refused (5 ∷ 6 ∷ 7 ∷ 8 ∷ 9 ∷ 10 ∷ []) (pathAfter a l ≡ l) (answerOf a)
   pub admission : (w : List ℕ) (work : ℕ) (l : List ℕ) (c : ℕ) (r : Request)
       → let a = calls.admission w work (length l) c r in
-      Decided (λ x. (g : Numbers) × (x ≡ request.Granted g)) request.Refused (5 ∷ 6 ∷ 7 ∷ 8 ∷ 11 ∷ 12 ∷ 9 ∷ 10 ∷ [])
+      Decided (λ said. (g : Numbers) × (said ≡ request.Granted g)) request.Refused (5 ∷ 6 ∷ 7 ∷ 8 ∷ 11 ∷ 12 ∷ 9 ∷ 10 ∷ [])
       ((calls.booked w c (r .units) a ≡ w) × (pathAfter a l ≡ l)) (answerOf a)
   pub release : (w : List ℕ) (c : ℕ)
       → let a = calls.release w c in
-      Decided (λ x. x ≡ release.Released) release.Refused (5 ∷ 13 ∷ []) (calls.cleared w c a ≡ w) (releaseAnswerOf a)
+      Decided (λ said. said ≡ release.Released) release.Refused (5 ∷ 13 ∷ []) (calls.cleared w c a ≡ w) (releaseAnswerOf a)
   pub list : (w l : List ℕ)
-      → Decided (λ a. (h : ℕ) × (a ≡ reading.Value h)) reading.Refused (5 ∷ 14 ∷ []) (listed w l ≡ l) (listAnswer w (length l))
+      → Decided (λ a. (h : ℕ) × (a ≡ value.Value h)) value.Refused (5 ∷ 14 ∷ []) (listed w l ≡ l) (listAnswer w (length l))
   pub free-units : (w : List ℕ) (i : ℕ)
-      → Decided (λ a. (u : ℕ) × (a ≡ reading.Value u)) reading.Refused (5 ∷ 15 ∷ []) (Unit {0}) (freeAnswer w i)
-  pub class : (k : ℕ) → Decided (λ a. (s : Service) × (a ≡ class.Row s)) class.Refused (16 ∷ []) (Unit {0}) (classAnswer k)
+      → Decided (λ a. (u : ℕ) × (a ≡ value.Value u)) value.Refused (5 ∷ 15 ∷ []) (Unit {0}) (freeAnswer w i)
+  pub class : (c : ℕ) → Decided (λ a. (s : Service) × (a ≡ class.Row s)) class.Refused (16 ∷ []) (Unit {0}) (classAnswer c)
   pub link-file : (f t : List ℕ)
       → Decided (λ a. (s : Size) × (a ≡ file.Table s)) file.Refused (17 ∷ 18 ∷ 19 ∷ []) (tableRead f t ≡ t) (readAnswer f (length t))
 

@@ -19,15 +19,15 @@ use Rattle.rules.specs.Allowed.{Grant, requestRules, numberRules, searchRules, 
 -- A call: its numbers and, where it takes them, work memory and path buffer. The ledger is fed the lengths of these
 -- two, so it reads a `Call ℕ`; a history, which lends them, is made of `Call (List ℕ)`.
 pub data Call (Lent : Type 0) : Type 0 where
-  quoting : (work room : Lent) → Request → Call Lent
-  admitting : (work room : Lent) → (number : ℕ) → Request → Call Lent
+  quoting : (work path : Lent) → Request → Call Lent
+  admitting : (work path : Lent) → (number : ℕ) → Request → Call Lent
   releasing : (number : ℕ) → Call Lent
 
 -- what a call is granted: a quote and an admission a path with its problem, delay and cost; a release that the circuit
 -- goes, and nothing besides
 abbrev pub Granting : Call ℕ → Type 0
-Granting (quoting work room r) = PathGrant
-Granting (admitting work room c r) = PathGrant
+Granting (quoting work path r) = PathGrant
+Granting (admitting work path c r) = PathGrant
 Granting (releasing c) = Unit {0}
 
 -- a call's reply: refused with a number, or granted that
@@ -36,9 +36,9 @@ ReplyTo q = Reply (Granting q)
 
 -- of an answer: the path, where it grants an admission
 abbrev pub told : (q : Call ℕ) → ReplyTo q → Option (List ℕ)
-told (quoting work room r) a = none
-told (admitting work room c r) (refuses k) = none
-told (admitting work room c r) (grants g) = some (g .path)
+told (quoting work path r) a = none
+told (admitting work path c r) (refuses k) = none
+told (admitting work path c r) (grants g) = some (g .path)
 told (releasing c) a = none
 
 -- ---- what it holds
@@ -62,14 +62,14 @@ seen o r = net o (r .units)
 -- ---- which answers it allows
 -- the rules before the search, in the order given for each call; the area is always well formed, so 5 is not among them
 abbrev pub checks : Books → Call ℕ → List Rule
-checks o (quoting work room r) = requestRules o work room r
-checks o (admitting work room c r) = requestRules o work room r ++ numberRules o c
+checks o (quoting work path r) = requestRules o work path r
+checks o (admitting work path c r) = requestRules o work path r ++ numberRules o c
 checks o (releasing c) = releaseRules o c
 
 -- those of the search: 9 and 10
 abbrev pub searches : Books → Call ℕ → List Rule
-searches o (quoting work room r) = searchRules (seen o r) r
-searches o (admitting work room c r) = searchRules (seen o r) r
+searches o (quoting work path r) = searchRules (seen o r) r
+searches o (admitting work path c r) = searchRules (seen o r) r
 searches o (releasing c) = []
 
 abbrev pub rules : Books → Call ℕ → List Rule
@@ -81,8 +81,8 @@ Refuses o q k = FirstApplies (rules o q) k
 
 -- what must be granted where no rule applies
 abbrev pub Grants : Books → (q : Call ℕ) → Granting q → Type 0
-Grants o (quoting work room r) g = Grant (seen o r) r g
-Grants o (admitting work room c r) g = Grant (seen o r) r g
+Grants o (quoting work path r) g = Grant (seen o r) r g
+Grants o (admitting work path c r) g = Grant (seen o r) r g
 Grants o (releasing c) g = Unit {0}
 
 -- ---- how the entries move
@@ -92,7 +92,7 @@ entry c r p = record { number = c; units = r .units; path = p }
 -- A quote and a refused call leave the ledger alone. A granted admission adds its number, its units and the path. A
 -- release removes the entry with its number; where none has it, the release is refused and nothing is removed.
 abbrev pub moved : Ledger → Call ℕ → Option (List ℕ) → Ledger
-moved l (quoting work room r) path = l
-moved l (admitting work room c r) none = l
-moved l (admitting work room c r) (some p) = withCircuit l (entry c r p)
-moved l (releasing c) path = withoutNumber l c
+moved l (quoting work path r) granted = l
+moved l (admitting work path c r) none = l
+moved l (admitting work path c r) (some p) = withCircuit l (entry c r p)
+moved l (releasing c) granted = withoutNumber l c

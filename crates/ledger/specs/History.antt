@@ -20,28 +20,28 @@ Lending = Call (List ℕ)
 
 -- its numbers, and the lengths of what it is lent
 abbrev pub measured : Lending → Call ℕ
-measured (quoting work room r) = quoting (length work) (length room) r
-measured (admitting work room c r) = admitting (length work) (length room) c r
+measured (quoting work path r) = quoting (length work) (length path) r
+measured (admitting work path c r) = admitting (length work) (length path) c r
 measured (releasing c) = releasing c
 
 -- ---- one call on an area
 -- the reply that the contract of its call gives
 abbrev pub replyTo : List ℕ → (c : Lending) → ReplyTo (measured c)
-replyTo w (quoting work room r) = quote w (length work) (length room) r
-replyTo w (admitting work room c r) = admission w (length work) (length room) c r
+replyTo w (quoting work path r) = quote w (length work) (length path) r
+replyTo w (admitting work path c r) = admission w (length work) (length path) c r
 replyTo w (releasing c) = release w c
 
 -- the area after; a quote is lent it unchangeable
 abbrev pub areaAfter : List ℕ → Lending → List ℕ
-areaAfter w (quoting work room r) = w
-areaAfter w (admitting work room c r) = booked w c (r .units) (admission w (length work) (length room) c r)
+areaAfter w (quoting work path r) = w
+areaAfter w (admitting work path c r) = booked w c (r .units) (admission w (length work) (length path) c r)
 areaAfter w (releasing c) = cleared w c (release w c)
 
 -- ---- what it gives
 -- the path buffer that it is lent; a release is lent none
 abbrev pub buffer : Lending → List ℕ
-buffer (quoting work room r) = room
-buffer (admitting work room c r) = room
+buffer (quoting work path r) = path
+buffer (admitting work path c r) = path
 buffer (releasing c) = []
 
 -- how many links the code's answer counts
@@ -55,11 +55,11 @@ pub data Given : Type 0 where
   of-request : (numbers : RequestAnswer) → (words : List ℕ) → Given
   of-release : (numbers : ReleaseAnswer) → Given
 
--- of a quote or an admission that is lent the path buffer `room` and has the reply a: the code's answer and the first l
+-- of a quote or an admission that is lent the path buffer `path` and has the reply a: the code's answer and the first l
 -- words of the path buffer after, both as the contracts say
 unfoldable pub pathGiven : List ℕ → PathReply → Given
 unfolding answerOf pathAfter
-pathGiven room a = of-request (answerOf a) (take (linksOf (answerOf a)) (pathAfter a room))
+pathGiven path a = of-request (answerOf a) (take (linksOf (answerOf a)) (pathAfter a path))
 
 -- of a release
 unfoldable pub releaseGiven : ReleaseReply → Given
@@ -67,9 +67,9 @@ unfolding releaseAnswerOf
 releaseGiven a = of-release (releaseAnswerOf a)
 
 abbrev pub given : List ℕ → (q : Call ℕ) → ReplyTo q → Given
-given room (quoting work len r) a = pathGiven room a
-given room (admitting work len c r) a = pathGiven room a
-given room (releasing c) a = releaseGiven a
+given path (quoting work len r) a = pathGiven path a
+given path (admitting work len c r) a = pathGiven path a
+given path (releasing c) a = releaseGiven a
 
 -- of a call on an area
 abbrev pub givenTo : List ℕ → Lending → Given
@@ -121,7 +121,7 @@ atEnd l (e ∷ es) = atEnd (after l e) es
 -- words, of any contents.
 pub data Struck : List Lending → List Lending → Type 0 where
   end : Struck [] []
-  strike : {work room : List ℕ} {r : Request} {cs ds : List Lending} → Struck cs ds → Struck (quoting work room r ∷ cs) ds
+  strike : {work path : List ℕ} {r : Request} {cs ds : List Lending} → Struck cs ds → Struck (quoting work path r ∷ cs) ds
   keep : {c d : Lending} {cs ds : List Lending} → measured c ≡ measured d → Struck cs ds → Struck (c ∷ cs) (d ∷ ds)
 
 -- of the answers to cs, those to the calls that remain

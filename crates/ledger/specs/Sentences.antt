@@ -34,6 +34,6 @@ AtEvery P l (e ∷ es) = P (books l) (e .call) (e .reply) × AtEvery P (after l 
 
 -- P holds where a call is a quote or an admission: of the network that its request sees, the request and the answer
 abbrev pub OfRequest : (Net → Request → PathReply → Type 0) → Books → (q : Call ℕ) → ReplyTo q → Type 0
-OfRequest P o (quoting work room r) a = P (seen o r) r a
-OfRequest P o (admitting work room c r) a = P (seen o r) r a
+OfRequest P o (quoting work path r) a = P (seen o r) r a
+OfRequest P o (admitting work path c r) a = P (seen o r) r a
 OfRequest P o (releasing c) a = Unit

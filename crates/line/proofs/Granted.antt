@@ -23,8 +23,8 @@ use Rattle.area.specs.Refusals.{Rule, _when_, FirstApplies, Reply, refuses, gra
 use Rattle.area.specs.Checks.{Check, firstFailing, unlessRefused, checked}
 use Rattle.area.specs.declared.Loading.{Loading}
 use Rattle.area.specs.declared.Loading.the-variants as loading
-use Rattle.area.specs.declared.Reading.{Reading}
-use Rattle.area.specs.declared.Reading.the-variants as reading
+use Rattle.area.specs.declared.ValueAnswer.{ValueAnswer}
+use Rattle.area.specs.declared.ValueAnswer.the-variants as value
 use Rattle.area.specs.Load.{loadChecks, loadAnswer}
 use Rattle.area.specs.Reads.{countOf, listRules, ListMeans, freeChecks, freeAnswer}
 use Rattle.rules.specs.declared.RequestAnswer.{RequestAnswer}
@@ -38,10 +38,10 @@ use Rattle.rules.specs.Replies.{PathGrant, PathReply, answerOf, ReleaseReply, r
 use Rattle.rules.specs.Allowed.{Grant, searchRules, numberRules, releaseRules}
 use Rattle.rules.specs.Meaning.{booksIn, quoteRules, netFor, Cleared, QuoteMeans, AdmissionMeans, ReleaseMeans}
 use Rattle.link_format.specs.declared.Size.{Size}
-use Rattle.link_format.specs.declared.Reading.{Reading as FileReading}
-use Rattle.link_format.specs.declared.Reading.the-variants as file
+use Rattle.link_format.specs.declared.FileAnswer.{FileAnswer}
+use Rattle.link_format.specs.declared.FileAnswer.the-variants as file
 use Rattle.link_format.specs.Reading.{readChecks, readAnswer, linksIn as fileLinks, nodesIn}
-use Rattle.line.specs.Codes.{answerCode, grantWords, releaseCode, loadCode, readingCode, valueWord, classCode, fileCode}
+use Rattle.line.specs.Codes.{answerCode, grantWords, releaseCode, loadCode, valueCode, valueWord, classCode, fileCode}
 use Rattle.line.specs.Meaning.{TellsGrant, QuoteTells, AdmissionTells, ReleaseTells, ListTells}
 
 -- ---- a list of checks
@@ -63,18 +63,18 @@ load-granted w n links =
     past-checks loadCode (λ (a : Loading). a ≡ loading.Loaded) loading.Refused (λ k. refl) (loadChecks w n links) loading.Loaded (λ e. refl)
 
 -- ---- free units
-pub free-granted : (w : List ℕ) (i : ℕ) → readingCode (freeAnswer w i) ≡ 0 → freeAnswer w i ≡ reading.Value (free (station w) i)
-unfolding freeAnswer readingCode
+pub free-granted : (w : List ℕ) (i : ℕ) → valueCode (freeAnswer w i) ≡ 0 → freeAnswer w i ≡ value.Value (free (station w) i)
+unfolding freeAnswer valueCode
 free-granted w i =
-    past-checks readingCode (λ (a : Reading). a ≡ reading.Value (free (station w) i)) reading.Refused (λ k. refl) (freeChecks w i)
-    (reading.Value (free (station w) i))
+    past-checks valueCode (λ (a : ValueAnswer). a ≡ value.Value (free (station w) i)) value.Refused (λ k. refl) (freeChecks w i)
+    (value.Value (free (station w) i))
     (λ e. refl)
 
 -- ---- class
-pub class-granted : (k : ℕ) → classCode (classAnswer k) ≡ 0 → classAnswer k ≡ class.Row (getD rows k (asks 0 0 0 0))
+pub class-granted : (i : ℕ) → classCode (classAnswer i) ≡ 0 → classAnswer i ≡ class.Row (getD rows i (asks 0 0 0 0))
 unfolding classAnswer classCode
-class-granted k =
-    by-test (leb k 5) _ _ (λ (a : ClassAnswer). classCode a ≡ 0 → a ≡ class.Row (getD rows k (asks 0 0 0 0)))
+class-granted i =
+    by-test (leb i 5) _ _ (λ (a : ClassAnswer). classCode a ≡ 0 → a ≡ class.Row (getD rows i (asks 0 0 0 0)))
     (λ _ e. refl)
     (λ _ e. absurd (omega arith))
 
@@ -91,22 +91,22 @@ refused-over (r ∷ rs) over k (inl h) = omega (arith, ltb-true 0 (r .number) (f
 refused-over (r ∷ rs) over k (inr h) = refused-over rs (snd-of (ltb 0 (r .number)) _ over) k (h .1)
 
 -- an answer of which P holds, where P holds of no refusal with 0: the code 0 tells a grant, and its numbers are in the array
-granted-told : (P : RequestAnswer → Type 0) → ((k : ℕ) → P (request.Refused k) → 0 < k) → (v v' : List ℕ) → TellsGrant P 0 v v'
+granted-tells : (P : RequestAnswer → Type 0) → ((k : ℕ) → P (request.Refused k) → 0 < k) → (v v' : List ℕ) → TellsGrant P 0 v v'
     → (g : Numbers) × P (request.Granted g) × (v' ≡ g .problem ∷ g .delay ∷ g .cost ∷ g .links ∷ [])
 unfolding answerCode grantWords
-granted-told P over v v' h = go (h .answer) (h .means) (h .code) (h .words)
+granted-tells P over v v' h = go (h .answer) (h .means) (h .code) (h .words)
   where
-    go : (x : RequestAnswer) → P x → 0 ≡ answerCode x → v' ≡ grantWords x v
+    go : (said : RequestAnswer) → P said → 0 ≡ answerCode said → v' ≡ grantWords said v
         → (g : Numbers) × P (request.Granted g) × (v' ≡ g .problem ∷ g .delay ∷ g .cost ∷ g .links ∷ [])
     go (request.Refused k) means code words = absurd (omega (arith, over k means, code))
     go (request.Granted g) means code words = (g, means, words)
 
 -- and another code is the number of a refusal, which leaves the array as it was
-refused-told : (P : RequestAnswer → Type 0) (k : ℕ) → 0 < k → (v v' : List ℕ) → TellsGrant P k v v' → P (request.Refused k) × (v' ≡ v)
+refused-tells : (P : RequestAnswer → Type 0) (k : ℕ) → 0 < k → (v v' : List ℕ) → TellsGrant P k v v' → P (request.Refused k) × (v' ≡ v)
 unfolding answerCode grantWords
-refused-told P k some v v' h = go (h .answer) (h .means) (h .code) (h .words)
+refused-tells P k some v v' h = go (h .answer) (h .means) (h .code) (h .words)
   where
-    go : (x : RequestAnswer) → P x → k ≡ answerCode x → v' ≡ grantWords x v → P (request.Refused k) × (v' ≡ v)
+    go : (said : RequestAnswer) → P said → k ≡ answerCode said → v' ≡ grantWords said v → P (request.Refused k) × (v' ≡ v)
     go (request.Refused j) means code words = (subst (λ (i : ℕ). P (request.Refused i)) (sym code) means, words)
     go (request.Granted g) means code words = absurd (omega (arith, some, code))
 
@@ -125,10 +125,10 @@ module _ (w : List ℕ) (work : ℕ) (l v : List ℕ) (r : Request) (l' v' : Lis
 
   pub quote-granted : QuoteTells w work l v r 0 l' v'
       → (g : Numbers) × QuoteMeans w work l r (request.Granted g) l' × (v' ≡ g .problem ∷ g .delay ∷ g .cost ∷ g .links ∷ [])
-  quote-granted = granted-told _ quote-over v v'
+  quote-granted = granted-tells _ quote-over v v'
 
   pub quote-refused : (k : ℕ) → 0 < k → QuoteTells w work l v r k l' v' → QuoteMeans w work l r (request.Refused k) l' × (v' ≡ v)
-  quote-refused k some = refused-told _ k some v v'
+  quote-refused k some = refused-tells _ k some v v'
 
   module _ (c : ℕ) (w' : List ℕ) where
     admission-over : (k : ℕ) → AdmissionMeans w work l c r (request.Refused k) l' w' → 0 < k
@@ -138,11 +138,11 @@ module _ (w : List ℕ) (work : ℕ) (l v : List ℕ) (r : Request) (l' v' : Lis
 
     pub admission-granted : AdmissionTells w work l v c r 0 l' v' w'
         → (g : Numbers) × AdmissionMeans w work l c r (request.Granted g) l' w' × (v' ≡ g .problem ∷ g .delay ∷ g .cost ∷ g .links ∷ [])
-    admission-granted = granted-told _ admission-over v v'
+    admission-granted = granted-tells _ admission-over v v'
 
     pub admission-refused : (k : ℕ) → 0 < k → AdmissionTells w work l v c r k l' v' w'
         → AdmissionMeans w work l c r (request.Refused k) l' w' × (v' ≡ v)
-    admission-refused k some = refused-told _ k some v v'
+    admission-refused k some = refused-tells _ k some v v'
 
 module _ (w : List ℕ) (c : ℕ) (w' : List ℕ) where
   release-over : (a : ReleaseReply) → Cleared w c a → (k : ℕ) → release.Refused k ≡ releaseAnswerOf a → 0 < k
@@ -156,7 +156,7 @@ module _ (w : List ℕ) (c : ℕ) (w' : List ℕ) where
   unfolding releaseCode
   release-granted h = go (h .answer) (h .means) (h .code)
     where
-      go : (x : ReleaseAnswer) → ReleaseMeans w c x w' → 0 ≡ releaseCode x → ReleaseMeans w c release.Released w'
+      go : (said : ReleaseAnswer) → ReleaseMeans w c said w' → 0 ≡ releaseCode said → ReleaseMeans w c release.Released w'
       go (release.Refused k) means code = absurd (omega (arith, release-over (means .reply) (means .allowed) k (means .answer), code))
       go release.Released means code = means
 
@@ -164,35 +164,35 @@ module _ (w : List ℕ) (c : ℕ) (w' : List ℕ) where
   unfolding releaseCode
   release-refused k some h = go (h .answer) (h .means) (h .code)
     where
-      go : (x : ReleaseAnswer) → ReleaseMeans w c x w' → k ≡ releaseCode x → ReleaseMeans w c (release.Refused k) w'
+      go : (said : ReleaseAnswer) → ReleaseMeans w c said w' → k ≡ releaseCode said → ReleaseMeans w c (release.Refused k) w'
       go (release.Refused j) means code = subst (λ (i : ℕ). ReleaseMeans w c (release.Refused i) w') (sym code) means
       go release.Released means code = absurd (omega (arith, some, code))
 
 module _ (w l v l' v' : List ℕ) where
-  list-over : (a : Reply (List ℕ)) → Answered (ListsHeld (station w .held)) (listRules w (length l)) a → (k : ℕ) → reading.Refused k ≡ countOf a → 0 < k
+  list-over : (a : Reply (List ℕ)) → Answered (ListsHeld (station w .held)) (listRules w (length l)) a → (k : ℕ) → value.Refused k ≡ countOf a → 0 < k
   list-over (refuses j) h k e = let same : k ≡ j = cc in omega (arith, refused-over (listRules w (length l)) refl j h, same)
   list-over (grants ns) h k e = absurd (zero-one cc)
 
-  pub list-granted : ListTells w l v 0 l' v' → (h : ℕ) × ListMeans w l (reading.Value h) l' × (v' ≡ h ∷ [])
-  unfolding readingCode valueWord
+  pub list-granted : ListTells w l v 0 l' v' → (h : ℕ) × ListMeans w l (value.Value h) l' × (v' ≡ h ∷ [])
+  unfolding valueCode valueWord
   list-granted t = go (t .answer) (t .means) (t .code) (t .words)
     where
-      go : (x : Reading) → ListMeans w l x l' → 0 ≡ readingCode x → v' ≡ valueWord x v → (h : ℕ) × ListMeans w l (reading.Value h) l' × (v' ≡ h ∷ [])
-      go (reading.Refused k) means code words = absurd (omega (arith, list-over (means .reply) (means .allowed) k (means .answer), code))
-      go (reading.Value h) means code words = (h, means, words)
+      go : (said : ValueAnswer) → ListMeans w l said l' → 0 ≡ valueCode said → v' ≡ valueWord said v → (h : ℕ) × ListMeans w l (value.Value h) l' × (v' ≡ h ∷ [])
+      go (value.Refused k) means code words = absurd (omega (arith, list-over (means .reply) (means .allowed) k (means .answer), code))
+      go (value.Value h) means code words = (h, means, words)
 
-  pub list-refused : (k : ℕ) → 0 < k → ListTells w l v k l' v' → ListMeans w l (reading.Refused k) l' × (v' ≡ v)
-  unfolding readingCode valueWord
+  pub list-refused : (k : ℕ) → 0 < k → ListTells w l v k l' v' → ListMeans w l (value.Refused k) l' × (v' ≡ v)
+  unfolding valueCode valueWord
   list-refused k some t = go (t .answer) (t .means) (t .code) (t .words)
     where
-      go : (x : Reading) → ListMeans w l x l' → k ≡ readingCode x → v' ≡ valueWord x v → ListMeans w l (reading.Refused k) l' × (v' ≡ v)
-      go (reading.Refused j) means code words = (subst (λ (i : ℕ). ListMeans w l (reading.Refused i) l') (sym code) means, words)
-      go (reading.Value h) means code words = absurd (omega (arith, some, code))
+      go : (said : ValueAnswer) → ListMeans w l said l' → k ≡ valueCode said → v' ≡ valueWord said v → ListMeans w l (value.Refused k) l' × (v' ≡ v)
+      go (value.Refused j) means code words = (subst (λ (i : ℕ). ListMeans w l (value.Refused i) l') (sym code) means, words)
+      go (value.Value h) means code words = absurd (omega (arith, some, code))
 
 -- ---- link file
-pub file-granted : (f : List ℕ) (room : ℕ) → fileCode (readAnswer f room) ≡ 0
-    → readAnswer f room ≡ file.Table (record { nodes = nodesIn f; links = fileLinks f })
+pub file-granted : (f : List ℕ) (table : ℕ) → fileCode (readAnswer f table) ≡ 0
+    → readAnswer f table ≡ file.Table (record { nodes = nodesIn f; links = fileLinks f })
 unfolding readAnswer fileCode
-file-granted f room =
+file-granted f table =
     let size : Size = record { nodes = nodesIn f; links = fileLinks f } in
-    past-checks fileCode (λ (a : FileReading). a ≡ file.Table size) file.Refused (λ k. refl) (readChecks f room) (file.Table size) (λ e. refl)
+    past-checks fileCode (λ (a : FileAnswer). a ≡ file.Table size) file.Refused (λ k. refl) (readChecks f table) (file.Table size) (λ e. refl)

@@ -5,16 +5,16 @@ use Prim.Native.Nat.{ℕ}
 use mathlib.Core.List.{List, [], _∷_}
 use Rattle.area.specs.declared.Loading.{Loading}
 use Rattle.area.specs.declared.Loading.the-variants as loading
-use Rattle.area.specs.declared.Reading.{Reading}
-use Rattle.area.specs.declared.Reading.the-variants as reading
+use Rattle.area.specs.declared.ValueAnswer.{ValueAnswer}
+use Rattle.area.specs.declared.ValueAnswer.the-variants as value
 use Rattle.rules.specs.declared.RequestAnswer.{RequestAnswer}
 use Rattle.rules.specs.declared.RequestAnswer.the-variants as request
 use Rattle.rules.specs.declared.ReleaseAnswer.{ReleaseAnswer}
 use Rattle.rules.specs.declared.ReleaseAnswer.the-variants as release
 use Rattle.rules.specs.declared.ClassAnswer.{ClassAnswer}
 use Rattle.rules.specs.declared.ClassAnswer.the-variants as class
-use Rattle.link_format.specs.declared.Reading.{Reading as FileReading}
-use Rattle.link_format.specs.declared.Reading.the-variants as file
+use Rattle.link_format.specs.declared.FileAnswer.{FileAnswer}
+use Rattle.link_format.specs.declared.FileAnswer.the-variants as file
 
 -- ---- quote and admission
 unfoldable pub answerCode : RequestAnswer → ℕ
@@ -37,14 +37,14 @@ loadCode (loading.Refused k) = k
 loadCode loading.Loaded = 0
 
 -- ---- listing and free units
-unfoldable pub readingCode : Reading → ℕ
-readingCode (reading.Refused k) = k
-readingCode (reading.Value v) = 0
+unfoldable pub valueCode : ValueAnswer → ℕ
+valueCode (value.Refused k) = k
+valueCode (value.Value v) = 0
 
 -- h, or the free units
-unfoldable pub valueWord : Reading → List ℕ → List ℕ
-valueWord (reading.Refused k) before = before
-valueWord (reading.Value v) before = v ∷ []
+unfoldable pub valueWord : ValueAnswer → List ℕ → List ℕ
+valueWord (value.Refused k) before = before
+valueWord (value.Value v) before = v ∷ []
 
 -- ---- class
 unfoldable pub classCode : ClassAnswer → ℕ
@@ -57,11 +57,11 @@ rowWords (class.Refused k) before = before
 rowWords (class.Row s) before = s .units ∷ s .«delay_bound» ∷ s .«cost_bound» ∷ s .coefficient ∷ []
 
 -- ---- link file
-unfoldable pub fileCode : FileReading → ℕ
+unfoldable pub fileCode : FileAnswer → ℕ
 fileCode (file.Refused k) = k
 fileCode (file.Table s) = 0
 
 -- n, m
-unfoldable pub sizeWords : FileReading → List ℕ → List ℕ
+unfoldable pub sizeWords : FileAnswer → List ℕ → List ℕ
 sizeWords (file.Refused k) before = before
 sizeWords (file.Table s) before = s .nodes ∷ s .links ∷ []

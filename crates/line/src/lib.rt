@@ -4,9 +4,9 @@
 // Each gives 0 for a grant, or else document 01's refusal number, and then the answer array is unchanged. None requires
 // anything of its numbers and words; what a C caller owes of pointers and lengths stands in line.h.
 //
-// `replies` and `readings` tell C what two calls each answer; the other modules are the functions themselves.
+// `replies` and `values` tell C what two calls each answer; the other modules are the functions themselves.
 mod booking_calls;
-mod readings;
 mod replies;
 mod station_calls;
 mod table_calls;
+mod values;

@@ -1,4 +1,4 @@
-// What quote and admission answer, as C is told it, and the request that C asks for.
+// What quote and admission answer, as C gets it, and the request that C asks for.
 ghost use mathlib.Core.Path.{_≡_};
 ghost use Rattle.network.specs.Reduce.{asking};
 ghost use Rattle.line.specs.Codes.{answerCode, grantWords};

@@ -4,7 +4,7 @@ ghost use lib.ListN.{length};
 ghost use Rattle.rules.specs.Classes.{classAnswer};
 ghost use Rattle.link_format.specs.Reading.{readAnswer, tableRead};
 ghost use Rattle.line.specs.Codes.{classCode, rowWords, fileCode, sizeWords};
-use link_format::Reading;
+use link_format::FileAnswer;
 use rules::ClassAnswer;
 
 // 16; else 0, and units, D, C and coefficient in `answer`.
@@ -30,8 +30,8 @@ pub extern "C" fn line_read_link_file(file: &[u8], table: &mut [u32], answer: &m
     ensures table { λ _. ⌜ now (table .exit) ≡ tableRead (now (file .entry)) (now (table .entry)) ⌝ }
 {
     match link_file::read(file, table) {
-        Reading::Refused(k) => k,
-        Reading::Table(s) => {
+        FileAnswer::Refused(k) => k,
+        FileAnswer::Table(s) => {
             *answer = [s.nodes, s.links];
             0
         }

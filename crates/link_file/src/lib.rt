@@ -15,35 +15,37 @@ mod word;
 use crate::records::read_records;
 use crate::word::is_signed;
 use crate::word::word;
-use link_format::Reading;
+use link_format::FileAnswer;
 use link_format::Size;
 use links::link;
+use network::limits::LINK_WORDS;
+use network::limits::MOST_LINKS;
 
 // 17, 18 and 19 in this order; else n and m, and the records' words stand in the first 5 m words of `table`, whose other
 // words keep theirs. A usize has 64 bits, so the sum of the offset and the records' bytes is exact.
-pub fn read(file: &[u8], table: &mut [u32]) -> Reading
+pub fn read(file: &[u8], table: &mut [u32]) -> FileAnswer
     ensures answer { λ a. ⌜ a ≡ readAnswer (now (file .entry)) (length (now (table .entry))) ⌝ }
     ensures table { λ _. ⌜ now (table .exit) ≡ tableRead (now (file .entry)) (now (table .entry)) ⌝ }
 {
     if !is_signed(file) {
-        return Reading::Refused(17);
+        return FileAnswer::Refused(17);
     }
     let end = file.len();
     let links = word(file, end - 12);
     let m = link::wide(links);
-    if 256 < m {
-        return Reading::Refused(18);
+    if MOST_LINKS < m {
+        return FileAnswer::Refused(18);
     }
     let offset = link::wide(word(file, end - 16));
     if offset + 20 * m + 16 != end {
-        return Reading::Refused(18);
+        return FileAnswer::Refused(18);
     }
-    if table.len() < 5 * m {
-        return Reading::Refused(19);
+    if table.len() < LINK_WORDS * m {
+        return FileAnswer::Refused(19);
     }
     read_records(&file[offset..], m, table);
     let nodes = word(file, end - 8);
-    Reading::Table(Size {
+    FileAnswer::Table(Size {
         nodes: nodes,
         links: links,
     })

@@ -18,7 +18,7 @@ word-of-bytes w small =
     omega (arith, second, third, fourth)
 
 -- four places of a list that is read from a start on
-four-places : (b c : List ℕ) (i j : ℕ) → ((k : ℕ) → getD b (i + k) 0 ≡ getD c (j + k) 0) → wordAt b i ≡ wordAt c j
+four-places : (b c : List ℕ) (i j : ℕ) → ((a : ℕ) → getD b (i + a) 0 ≡ getD c (j + a) 0) → wordAt b i ≡ wordAt c j
 unfolding wordAt
 four-places b c i j same =
     let p : i ≡ i + 0 = omega arith in
@@ -29,22 +29,22 @@ four-places b c i j same =
 -- behind a front, and in what is left behind a front
 pub word-behind : (front b : List ℕ) (i : ℕ) → wordAt (front ++ b) (length front + i) ≡ wordAt b i
 word-behind front b i =
-    four-places (front ++ b) b (length front + i) i λ k.
-    let e : length front + i + k ≡ length front + (i + k) = omega arith in
-    ap (λ (n : ℕ). getD (front ++ b) n 0) e ∙ getD-append-add front b (i + k) 0
+    four-places (front ++ b) b (length front + i) i λ a.
+    let e : length front + i + a ≡ length front + (i + a) = omega arith in
+    ap (λ (n : ℕ). getD (front ++ b) n 0) e ∙ getD-append-add front b (i + a) 0
 
 pub word-left : (b : List ℕ) (d i : ℕ) → wordAt (drop d b) i ≡ wordAt b (d + i)
 word-left b d i =
-    four-places (drop d b) b i (d + i) λ k.
-    let e : d + (i + k) ≡ d + i + k = omega arith in
-    getD-drop d b (i + k) 0 ∙ ap (λ (n : ℕ). getD b n 0) e
+    four-places (drop d b) b i (d + i) λ a.
+    let e : d + (i + a) ≡ d + i + a = omega arith in
+    getD-drop d b (i + a) 0 ∙ ap (λ (n : ℕ). getD b n 0) e
 
 -- words behind a first word
-words-behind : (x y z w : ℕ) (b : List ℕ) (i k : ℕ) → wordsFrom (x ∷ y ∷ z ∷ w ∷ b) (suc i) k ≡ wordsFrom b i k
-words-behind x y z w b i zero = refl
-words-behind x y z w b i (suc k) =
+words-behind : (u y z w : ℕ) (b : List ℕ) (i k : ℕ) → wordsFrom (u ∷ y ∷ z ∷ w ∷ b) (suc i) k ≡ wordsFrom b i k
+words-behind u y z w b i zero = refl
+words-behind u y z w b i (suc k) =
     let e : 4 * suc i ≡ 4 + 4 * i = omega arith in
-    ap₂ {C = List ℕ} _∷_ (ap (wordAt (x ∷ y ∷ z ∷ w ∷ b)) e ∙ word-behind (x ∷ y ∷ z ∷ w ∷ []) b (4 * i)) (words-behind x y z w b (suc i) k)
+    ap₂ {C = List ℕ} _∷_ (ap (wordAt (u ∷ y ∷ z ∷ w ∷ b)) e ∙ word-behind (u ∷ y ∷ z ∷ w ∷ []) b (4 * i)) (words-behind u y z w b (suc i) k)
 
 -- the words that were put are read
 pub words-of-bytes : (ws rest : List ℕ) → AllBelow (2 ^ 32) ws → wordsFrom (bytesOfAll ws ++ rest) 0 (length ws) ≡ ws
@@ -57,14 +57,14 @@ words-of-bytes (w ∷ ws) rest fit =
 low-digit : (y r : ℕ) → y < 256 → (y + 256 * r) % 256 ≡ y
 low-digit y r low = omega arith
 
-bytes-of-word : (x y z w : ℕ) → x < 256 → y < 256 → z < 256 → w < 256
-    → bytesOf (x + 256 * y + 65536 * (z + 256 * w)) ≡ x ∷ y ∷ z ∷ w ∷ []
-bytes-of-word x y z w a b c d =
-    let by0 : (x + 256 * y + 65536 * (z + 256 * w)) ≡ x + 256 * (y + 256 * (z + 256 * w)) = omega arith in
-    let by1 : (x + 256 * y + 65536 * (z + 256 * w)) / 256 ≡ y + 256 * (z + 256 * w) = omega arith in
-    let by2 : (x + 256 * y + 65536 * (z + 256 * w)) / 65536 ≡ z + 256 * w = omega arith in
-    let by3 : (x + 256 * y + 65536 * (z + 256 * w)) / 16777216 ≡ w + 256 * 0 = omega arith in
-    let first = ap (λ (v : ℕ). v % 256) by0 ∙ low-digit x _ a in
+bytes-of-word : (u y z w : ℕ) → u < 256 → y < 256 → z < 256 → w < 256
+    → bytesOf (u + 256 * y + 65536 * (z + 256 * w)) ≡ u ∷ y ∷ z ∷ w ∷ []
+bytes-of-word u y z w a b c d =
+    let by0 : (u + 256 * y + 65536 * (z + 256 * w)) ≡ u + 256 * (y + 256 * (z + 256 * w)) = omega arith in
+    let by1 : (u + 256 * y + 65536 * (z + 256 * w)) / 256 ≡ y + 256 * (z + 256 * w) = omega arith in
+    let by2 : (u + 256 * y + 65536 * (z + 256 * w)) / 65536 ≡ z + 256 * w = omega arith in
+    let by3 : (u + 256 * y + 65536 * (z + 256 * w)) / 16777216 ≡ w + 256 * 0 = omega arith in
+    let first = ap (λ (v : ℕ). v % 256) by0 ∙ low-digit u _ a in
     let second = ap (λ (v : ℕ). v % 256) by1 ∙ low-digit y _ b in
     let third = ap (λ (v : ℕ). v % 256) by2 ∙ low-digit z _ c in
     let fourth = ap (λ (v : ℕ). v % 256) by3 ∙ low-digit w 0 d in
@@ -75,29 +75,29 @@ pub bytes-of-words : (k : ℕ) (b : List ℕ) → 4 * k ≤ length b → AllBelo
 unfolding bytesOfAll wordAt
 bytes-of-words zero b long bytes = refl
 bytes-of-words (suc k) [] long bytes = absurd (omega arith)
-bytes-of-words (suc k) (x ∷ []) long bytes = absurd (omega arith)
-bytes-of-words (suc k) (x ∷ y ∷ []) long bytes = absurd (omega arith)
-bytes-of-words (suc k) (x ∷ y ∷ z ∷ []) long bytes = absurd (omega arith)
-bytes-of-words (suc k) (x ∷ y ∷ z ∷ w ∷ b) long bytes =
+bytes-of-words (suc k) (u ∷ []) long bytes = absurd (omega arith)
+bytes-of-words (suc k) (u ∷ y ∷ []) long bytes = absurd (omega arith)
+bytes-of-words (suc k) (u ∷ y ∷ z ∷ []) long bytes = absurd (omega arith)
+bytes-of-words (suc k) (u ∷ y ∷ z ∷ w ∷ b) long bytes =
     let rest = bytes .1 .1 .1 .1 in
     let e : 4 + 4 * k ≡ 4 * suc k = omega arith in
-    ap₂ {C = List ℕ} _++_ (sym (bytes-of-word x y z w (bytes .0) (bytes .1 .0) (bytes .1 .1 .0) (bytes .1 .1 .1 .0)))
+    ap₂ {C = List ℕ} _++_ (sym (bytes-of-word u y z w (bytes .0) (bytes .1 .0) (bytes .1 .1 .0) (bytes .1 .1 .1 .0)))
     (bytes-of-words k b (omega arith) rest
-    ∙ ap₂ {C = List ℕ} (λ (ws d : List ℕ). bytesOfAll ws ++ d) (sym (words-behind x y z w b 0 k))
-    (sym (drop-append-add (x ∷ y ∷ z ∷ w ∷ []) b (4 * k)) ∙ ap (λ (n : ℕ). drop n (x ∷ y ∷ z ∷ w ∷ b)) e))
-    ∙ sym (append-assoc (bytesOf (x + 256 * y + 65536 * (z + 256 * w))) (bytesOfAll (wordsFrom (x ∷ y ∷ z ∷ w ∷ b) 1 k)) (drop (4 * suc k) (x ∷ y ∷ z ∷ w ∷ b)))
+    ∙ ap₂ {C = List ℕ} (λ (ws d : List ℕ). bytesOfAll ws ++ d) (sym (words-behind u y z w b 0 k))
+    (sym (drop-append-add (u ∷ y ∷ z ∷ w ∷ []) b (4 * k)) ∙ ap (λ (n : ℕ). drop n (u ∷ y ∷ z ∷ w ∷ b)) e))
+    ∙ sym (append-assoc (bytesOf (u + 256 * y + 65536 * (z + 256 * w))) (bytesOfAll (wordsFrom (u ∷ y ∷ z ∷ w ∷ b) 1 k)) (drop (4 * suc k) (u ∷ y ∷ z ∷ w ∷ b)))
 
 -- ---- ranges
 pub byte-below : (b : List ℕ) (i : ℕ) → AllBelow 256 b → getD b i 0 < 256
 byte-below [] i bytes = omega arith
-byte-below (x ∷ b) zero bytes = bytes .0
-byte-below (x ∷ b) (suc i) bytes = byte-below b i (bytes .1)
+byte-below (u ∷ b) zero bytes = bytes .0
+byte-below (u ∷ b) (suc i) bytes = byte-below b i (bytes .1)
 
 pub bytes-left : (b : List ℕ) (d : ℕ) → AllBelow 256 b → AllBelow 256 (drop d b)
 bytes-left [] zero bytes = bytes
 bytes-left [] (suc d) bytes = bytes
-bytes-left (x ∷ b) zero bytes = bytes
-bytes-left (x ∷ b) (suc d) bytes = bytes-left b d (bytes .1)
+bytes-left (u ∷ b) zero bytes = bytes
+bytes-left (u ∷ b) (suc d) bytes = bytes-left b d (bytes .1)
 
 pub word-fits : (b : List ℕ) (i : ℕ) → AllBelow 256 b → wordAt b i < 2 ^ 32
 unfolding wordAt

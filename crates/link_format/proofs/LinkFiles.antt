@@ -10,9 +10,10 @@ use borrow.Author.Tests.{le-leb, eq-eqb, eqb-true}
 use lib.Dec.{leb, eqb}
 use lib.ListN.{length, getD, take, drop, length-append, length-drop, take-append-drop}
 use lib.Seq.{getD-append-add, getD-drop, drop-append-seam, drop-drop, length-take-le}
+use Rattle.network.specs.Limits.{linkWords, mostLinks}
 use Rattle.network.proofs.Tests.{fst-of, snd-of}
 use Rattle.link_format.specs.declared.Size.{Size}
-use Rattle.link_format.specs.declared.Reading.the-variants.{Table}
+use Rattle.link_format.specs.declared.FileAnswer.the-variants.{Table}
 use Rattle.link_format.specs.Format.{bytesOf, bytesOfAll, letters, trailer, AllBelow, LinkFile}
 use Rattle.link_format.specs.Reading.{wordAt, wordsFrom, fromEnd, lettersLast, signed, offsetIn, linksIn, nodesIn, recordWords, readAnswer}
 use Rattle.link_format.proofs.Bytes.{word-of-bytes, word-behind, word-left, words-of-bytes, bytes-of-words, bytes-left, word-fits, words-fit, bytes-length}
@@ -47,7 +48,7 @@ module _ (front : List ℕ) (o m n : ℕ) where
 
   -- its letters
   letter-laid : (back i : ℕ) → length whole - back ≡ length front + i → fromEnd whole back ≡ getD (trailer o m n) i 0
-  letter-laid back i e = ap (λ (k : ℕ). getD whole k 0) e ∙ getD-append-add front (trailer o m n) i 0
+  letter-laid back i e = ap (λ (j : ℕ). getD whole j 0) e ∙ getD-append-add front (trailer o m n) i 0
 
   signed-laid : signed whole ≡ true
   unfolding signed
@@ -65,7 +66,7 @@ module _ (front : List ℕ) (o m n : ℕ) where
         eq-eqb (fromEnd whole 1) 75 (letter-laid 1 15 e1),
       )
 
-module _ (n m : ℕ) (words notes : List ℕ) (few : m ≤ 256) (five : length words ≡ 5 * m) (offset-fits : length notes < 2 ^ 32) where
+module _ (n m : ℕ) (words notes : List ℕ) (few : m ≤ mostLinks) (five : length words ≡ linkWords * m) (offset-fits : length notes < 2 ^ 32) where
   abbrev laid : List ℕ
   laid = notes ++ bytesOfAll words ++ trailer (length notes) m n
 
@@ -82,8 +83,8 @@ module _ (n m : ℕ) (words notes : List ℕ) (few : m ≤ 256) (five : length w
   abbrev links-is : linksIn laid ≡ m
   links-is = links-laid (notes ++ bytesOfAll words) (length notes) m n (omega arith)
 
-  laid-accepted : (room : ℕ) → 5 * m ≤ room → Accepted laid room
-  laid-accepted room enough =
+  laid-accepted : (table : ℕ) → linkWords * m ≤ table → Accepted laid table
+  laid-accepted table enough =
       record {
         trailer = signed-laid (notes ++ bytesOfAll words) (length notes) m n;
         few = omega (arith, links-is);
@@ -94,30 +95,30 @@ module _ (n m : ℕ) (words notes : List ℕ) (few : m ≤ 256) (five : length w
   laid-words : AllBelow (2 ^ 32) words → recordWords laid ≡ words
   unfolding recordWords
   laid-words fit =
-      let part : drop (offsetIn laid) laid ≡ bytesOfAll words ++ trailer (length notes) m n = ap (λ (k : ℕ). drop k laid) offset-is ∙ ap (drop (length notes)) (append-assoc notes (bytesOfAll words) (trailer (length notes) m n)) ∙ drop-append-seam notes (bytesOfAll words ++ trailer (length notes) m n) in
-      let count : 5 * linksIn laid ≡ length words = omega (arith, links-is, five) in
+      let part : drop (offsetIn laid) laid ≡ bytesOfAll words ++ trailer (length notes) m n = ap (λ (d : ℕ). drop d laid) offset-is ∙ ap (drop (length notes)) (append-assoc notes (bytesOfAll words) (trailer (length notes) m n)) ∙ drop-append-seam notes (bytesOfAll words ++ trailer (length notes) m n) in
+      let count : linkWords * linksIn laid ≡ length words = omega (arith, links-is, five) in
       ap₂ (λ (b : List ℕ) (k : ℕ). wordsFrom b 0 k) part count ∙ words-of-bytes words (trailer (length notes) m n) fit
 
 -- it is accepted with its n and m where the table has room, and its words are read
-pub reads-link-file : (n m : ℕ) (words f : List ℕ) → LinkFile n m words f → (room : ℕ) → 5 * m ≤ room
-    → (readAnswer f room ≡ Table (record { nodes = n; links = m })) × (recordWords f ≡ words)
-reads-link-file n m words f is room enough =
+pub reads-link-file : (n m : ℕ) (words f : List ℕ) → LinkFile n m words f → (table : ℕ) → linkWords * m ≤ table
+    → (readAnswer f table ≡ Table (record { nodes = n; links = m })) × (recordWords f ≡ words)
+reads-link-file n m words f is table enough =
     let notes = is .notes in
     let g = notes ++ bytesOfAll words ++ trailer (length notes) m n in
     let nodes-is = nodes-laid (notes ++ bytesOfAll words) (length notes) m n (is .nodesFit) in
     let links-are = links-is n m words notes (is .few) (is .five) (is .offsetFits) in
-    let answer = accepts g room (laid-accepted n m words notes (is .few) (is .five) (is .offsetFits) room enough) ∙ ap₂ (λ (a b : ℕ). Table (record { nodes = a; links = b })) nodes-is links-are in
+    let answer = accepts g table (laid-accepted n m words notes (is .few) (is .five) (is .offsetFits) table enough) ∙ ap₂ (λ (a b : ℕ). Table (record { nodes = a; links = b })) nodes-is links-are in
     let read = laid-words n m words notes (is .few) (is .five) (is .offsetFits) (is .wordsFit) in
-    subst (λ (h : List ℕ). (readAnswer h room ≡ Table (record { nodes = n; links = m })) × (recordWords h ≡ words)) (sym (is .laid)) (answer, read)
+    subst (λ (h : List ℕ). (readAnswer h table ≡ Table (record { nodes = n; links = m })) × (recordWords h ≡ words)) (sym (is .laid)) (answer, read)
 
 -- ---- what is accepted
 four-long : (l : List ℕ) → length l ≡ 4 → l ≡ getD l 0 0 ∷ getD l 1 0 ∷ getD l 2 0 ∷ getD l 3 0 ∷ []
 four-long [] e = absurd (omega arith)
-four-long (x ∷ []) e = absurd (omega arith)
-four-long (x ∷ y ∷ []) e = absurd (omega arith)
-four-long (x ∷ y ∷ z ∷ []) e = absurd (omega arith)
-four-long (x ∷ y ∷ z ∷ w ∷ []) e = refl
-four-long (x ∷ y ∷ z ∷ w ∷ v ∷ l) e = absurd (omega arith)
+four-long (u ∷ []) e = absurd (omega arith)
+four-long (u ∷ y ∷ []) e = absurd (omega arith)
+four-long (u ∷ y ∷ z ∷ []) e = absurd (omega arith)
+four-long (u ∷ y ∷ z ∷ w ∷ []) e = refl
+four-long (u ∷ y ∷ z ∷ w ∷ v ∷ l) e = absurd (omega arith)
 
 -- the letters of a file that is signed
 letters-are : (f : List ℕ) → signed f ≡ true → (fromEnd f 4 ≡ 82) × (fromEnd f 3 ≡ 84) × (fromEnd f 2 ≡ 76) × (fromEnd f 1 ≡ 75)
@@ -145,7 +146,7 @@ module _ (f : List ℕ) (bytes : AllBelow 256 f) (s : signed f ≡ true) (d : �
       four-long l four ∙ λ t. (at 0 4 (omega arith) ∙ is .0) t ∷ (at 1 3 (omega arith) ∙ is .1) t ∷ (at 2 2 (omega arith) ∙ is .2) t ∷ (at 3 1 (omega arith) ∙ is .3) t ∷ []
     where
       at : (i back : ℕ) → d + (12 + i) ≡ length f - back → getD (drop 12 (drop d f)) i 0 ≡ fromEnd f back
-      at i back e = getD-drop 12 (drop d f) i 0 ∙ getD-drop d f (12 + i) 0 ∙ ap (λ (k : ℕ). getD f k 0) e
+      at i back e = getD-drop 12 (drop d f) i 0 ∙ getD-drop d f (12 + i) 0 ∙ ap (λ (j : ℕ). getD f j 0) e
 
   last-trailer : drop d f ≡ trailer (offsetIn f) (linksIn f) (nodesIn f)
   unfolding bytesOfAll
@@ -156,7 +157,7 @@ module _ (f : List ℕ) (bytes : AllBelow 256 f) (s : signed f ≡ true) (d : �
       word : (i back : ℕ) → d + i ≡ length f - back → wordAt (drop d f) i ≡ wordAt f (length f - back)
       word i back e = word-left f d i ∙ ap (wordAt f) e
 
-module _ (f : List ℕ) (bytes : AllBelow 256 f) (room : ℕ) (a : Accepted f room) where
+module _ (f : List ℕ) (bytes : AllBelow 256 f) (table : ℕ) (a : Accepted f table) where
   below : offsetIn f ≤ length f
   below = omega (arith, a .whole)
 
@@ -164,11 +165,11 @@ module _ (f : List ℕ) (bytes : AllBelow 256 f) (room : ℕ) (a : Accepted f ro
   records-then-trailer : drop (offsetIn f) f ≡ bytesOfAll (recordWords f) ++ trailer (offsetIn f) (linksIn f) (nodesIn f)
   unfolding recordWords
   records-then-trailer =
-      let k = 4 * (5 * linksIn f) in
-      let long : 4 * (5 * linksIn f) ≤ length (drop (offsetIn f) f) = omega (arith, a .whole, length-drop (offsetIn f) f) in
-      let last : offsetIn f + 4 * (5 * linksIn f) + 16 ≡ length f = omega (arith, a .whole) in
-      bytes-of-words (5 * linksIn f) (drop (offsetIn f) f) long (bytes-left f (offsetIn f) bytes)
-      ∙ ap (λ (l : List ℕ). bytesOfAll (wordsFrom (drop (offsetIn f) f) 0 (5 * linksIn f)) ++ l)
+      let k = 4 * (linkWords * linksIn f) in
+      let long : 4 * (linkWords * linksIn f) ≤ length (drop (offsetIn f) f) = omega (arith, a .whole, length-drop (offsetIn f) f) in
+      let last : offsetIn f + 4 * (linkWords * linksIn f) + 16 ≡ length f = omega (arith, a .whole) in
+      bytes-of-words (linkWords * linksIn f) (drop (offsetIn f) f) long (bytes-left f (offsetIn f) bytes)
+      ∙ ap (λ (l : List ℕ). bytesOfAll (wordsFrom (drop (offsetIn f) f) 0 (linkWords * linksIn f)) ++ l)
       (drop-drop k (offsetIn f) f ∙ last-trailer f bytes (a .trailer) (offsetIn f + k) last)
 
   is-laid : f ≡ take (offsetIn f) f ++ bytesOfAll (recordWords f) ++ trailer (length (take (offsetIn f) f)) (linksIn f) (nodesIn f)
@@ -186,14 +187,14 @@ module _ (f : List ℕ) (bytes : AllBelow 256 f) (room : ℕ) (a : Accepted f ro
         laid = is-laid;
         few = a .few;
         five = records-length f;
-        wordsFit = words-fit (drop (offsetIn f) f) 0 (5 * linksIn f) (bytes-left f (offsetIn f) bytes);
+        wordsFit = words-fit (drop (offsetIn f) f) 0 (linkWords * linksIn f) (bytes-left f (offsetIn f) bytes);
         nodesFit = word-fits f (length f - 8) bytes;
         offsetFits = omega (arith, length-take-le (offsetIn f) f below, word-fits f (length f - 16) bytes);
       }
 
 -- a list of bytes that is accepted is a link file with the words that were read
-pub accepted-link-file : (f : List ℕ) → AllBelow 256 f → (room : ℕ) (s : Size) → readAnswer f room ≡ Table s
+pub accepted-link-file : (f : List ℕ) → AllBelow 256 f → (table : ℕ) (s : Size) → readAnswer f table ≡ Table s
     → LinkFile (s .nodes) (s .links) (recordWords f) f
-accepted-link-file f bytes room s e =
-    subst (λ (z : Size). LinkFile (z .nodes) (z .links) (recordWords f) f) (sym (size-read f room s e))
-    (link-file f bytes room (read-accepted f room s e))
+accepted-link-file f bytes table s e =
+    subst (λ (z : Size). LinkFile (z .nodes) (z .links) (recordWords f) f) (sym (size-read f table s e))
+    (link-file f bytes table (read-accepted f table s e))

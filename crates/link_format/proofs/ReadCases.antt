@@ -8,9 +8,10 @@ use native.Mathlib.Nat.{le-of-eq}
 use borrow.Author.Tests.{le-leb, lt-leb, leb-true, eq-eqb, ne-eqb}
 use lib.ListN.{length, take, drop, length-drop}
 use lib.Seq.{take-all}
+use Rattle.network.specs.Limits.{linkWords, mostLinks}
 use Rattle.network.proofs.Tests.{fst-of}
-use Rattle.link_format.specs.declared.Reading.{Reading}
-use Rattle.link_format.specs.declared.Reading.the-variants.{Refused, Table}
+use Rattle.link_format.specs.declared.FileAnswer.{FileAnswer}
+use Rattle.link_format.specs.declared.FileAnswer.the-variants.{Refused, Table}
 use Rattle.link_format.specs.Reading.{signed, fills, offsetIn, linksIn, nodesIn, wordsFrom, recordWords, readAnswer, tableRead}
 
 pub signed-long : (f : List ℕ) → signed f ≡ true → 16 ≤ length f
@@ -18,8 +19,8 @@ unfolding signed
 signed-long f e = leb-true 16 (length f) (fst-of _ _ e)
 
 module _ (f t : List ℕ) where
-  abbrev Done : Reading → List ℕ → Type 0
-  Done x t' = (x ≡ readAnswer f (length t)) × (t' ≡ tableRead f t)
+  abbrev Done : FileAnswer → List ℕ → Type 0
+  Done said t' = (said ≡ readAnswer f (length t)) × (t' ≡ tableRead f t)
 
   pub unsigned : signed f ≡ false → Done (Refused 17) t
   unfolding readAnswer tableRead
@@ -30,42 +31,42 @@ module _ (f t : List ℕ) where
     unfolding readAnswer tableRead
     wrong-size e = (simp (is-signed, e), simp (is-signed, e))
 
-    pub many-links : 256 < linksIn f → Done (Refused 18) t
+    pub many-links : mostLinks < linksIn f → Done (Refused 18) t
     unfolding fills
-    many-links h = wrong-size (simp (lt-leb (linksIn f) 256 h))
+    many-links h = wrong-size (simp (lt-leb (linksIn f) mostLinks h))
 
-    module _ (few : linksIn f ≤ 256) where
+    module _ (few : linksIn f ≤ mostLinks) where
       pub not-filled : (offsetIn f + 20 * linksIn f + 16 ≡ length f → ⊥) → Done (Refused 18) t
       unfolding fills
-      not-filled h = wrong-size (simp (le-leb (linksIn f) 256 few, ne-eqb (offsetIn f + 20 * linksIn f + 16) (length f) h))
+      not-filled h = wrong-size (simp (le-leb (linksIn f) mostLinks few, ne-eqb (offsetIn f + 20 * linksIn f + 16) (length f) h))
 
       module _ (whole : offsetIn f + 20 * linksIn f + 16 ≡ length f) where
         pub filled : fills f ≡ true
         unfolding fills
-        filled = simp (le-leb (linksIn f) 256 few, eq-eqb (offsetIn f + 20 * linksIn f + 16) (length f) whole)
+        filled = simp (le-leb (linksIn f) mostLinks few, eq-eqb (offsetIn f + 20 * linksIn f + 16) (length f) whole)
 
-        pub short-table : length t < 5 * linksIn f → Done (Refused 19) t
+        pub short-table : length t < linkWords * linksIn f → Done (Refused 19) t
         unfolding readAnswer tableRead
         short-table h =
-            let e = lt-leb (5 * linksIn f) (length t) h in
+            let e = lt-leb (linkWords * linksIn f) (length t) h in
             (simp (is-signed, filled, e), simp (is-signed, filled, e))
 
-        accepted : 5 * linksIn f ≤ length t
-            → Done (Table (record { nodes = nodesIn f; links = linksIn f })) (recordWords f ++ drop (5 * linksIn f) t)
+        accepted : linkWords * linksIn f ≤ length t
+            → Done (Table (record { nodes = nodesIn f; links = linksIn f })) (recordWords f ++ drop (linkWords * linksIn f) t)
         unfolding readAnswer tableRead
         accepted h =
-            let e = le-leb (5 * linksIn f) (length t) h in
+            let e = le-leb (linkWords * linksIn f) (length t) h in
             (simp (is-signed, filled, e), simp (is-signed, filled, e))
 
         -- the record reader is handed the file's part from the offset o on
         pub read-from : (n l o m : ℕ) (t' : List ℕ) → n ≡ nodesIn f → l ≡ linksIn f → o ≡ offsetIn f → m ≡ linksIn f
-            → t' ≡ wordsFrom (take (length f - o) (drop o f)) 0 (5 * m) ++ drop (5 * m) t
-            → 5 * linksIn f ≤ length t
+            → t' ≡ wordsFrom (take (length f - o) (drop o f)) 0 (linkWords * m) ++ drop (linkWords * m) t
+            → linkWords * linksIn f ≤ length t
             → Done (Table (record { nodes = n; links = l })) t'
         unfolding recordWords
-        read-from n l o m t' n-is l-is o-is m-is stored room =
-            let done = accepted room in
-            let part : take (length f - o) (drop o f) ≡ drop (offsetIn f) f = take-all (length f - o) (drop o f) (le-of-eq (length-drop o f)) ∙ ap (λ (k : ℕ). drop k f) o-is in (
+        read-from n l o m t' n-is l-is o-is m-is stored enough =
+            let done = accepted enough in
+            let part : take (length f - o) (drop o f) ≡ drop (offsetIn f) f = take-all (length f - o) (drop o f) (le-of-eq (length-drop o f)) ∙ ap (λ (d : ℕ). drop d f) o-is in (
               ap₂ (λ (a b : ℕ). Table (record { nodes = a; links = b })) n-is l-is ∙ done .0,
-              stored ∙ ap₂ (λ (b : List ℕ) (k : ℕ). wordsFrom b 0 (5 * k) ++ drop (5 * k) t) part m-is ∙ done .1,
+              stored ∙ ap₂ (λ (b : List ℕ) (k : ℕ). wordsFrom b 0 (linkWords * k) ++ drop (linkWords * k) t) part m-is ∙ done .1,
             )

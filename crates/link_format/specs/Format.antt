@@ -5,6 +5,7 @@ use Prim.Native.Nat.{ℕ, _*_, _/_, _%_, _^_, _≤_, _<_}
 use mathlib.Core.Path.{_≡_}
 use mathlib.Core.List.{List, [], _∷_, _++_}
 use lib.ListN.{length}
+use Rattle.network.specs.Limits.{linkWords, mostLinks}
 use Rattle.network.specs.Lists.{All}
 
 -- a word as its four bytes, the low byte first
@@ -26,14 +27,14 @@ trailer offset m n = bytesOf offset ++ bytesOf m ++ bytesOf n ++ letters
 
 -- every number of a list is below a bound
 abbrev pub AllBelow : ℕ → List ℕ → Type 0
-AllBelow b xs = All (λ x. x < b) xs
+AllBelow b xs = All (λ n. n < b) xs
 
 -- free notes, the records of m links, five words each, and the trailer
 pub record LinkFile (n m : ℕ) (words file : List ℕ) : Type 0 where
   pub notes : List ℕ
   pub laid : file ≡ notes ++ bytesOfAll words ++ trailer (length notes) m n
-  pub few : m ≤ 256
-  pub five : length words ≡ 5 * m
+  pub few : m ≤ mostLinks
+  pub five : length words ≡ linkWords * m
   -- a word is a 32-bit unsigned number
   pub wordsFit : AllBelow (2 ^ 32) words
   pub nodesFit : n < 2 ^ 32

@@ -5,10 +5,11 @@ use mathlib.Core.Bool.{Bool, _&&_}
 use mathlib.Core.List.{List, [], _∷_, _++_}
 use lib.Dec.{leb, eqb}
 use lib.ListN.{length, getD, drop}
+use Rattle.network.specs.Limits.{linkWords, mostLinks}
 use Rattle.network.specs.Lists.{from}
 use Rattle.area.specs.Checks.{Check, _unless_, checked}
-use Rattle.link_format.specs.declared.Reading.{Reading}
-use Rattle.link_format.specs.declared.Reading.the-variants.{Refused, Table}
+use Rattle.link_format.specs.declared.FileAnswer.{FileAnswer}
+use Rattle.link_format.specs.declared.FileAnswer.the-variants.{Refused, Table}
 
 -- the word of four bytes from a place on, the low byte first
 unfoldable pub wordAt : List ℕ → ℕ → ℕ
@@ -42,19 +43,19 @@ nodesIn f = wordAt f (length f - 8)
 
 -- m is in range, and the notes, the records and the trailer are the whole file
 unfoldable pub fills : List ℕ → Bool
-fills f = leb (linksIn f) 256 && eqb (offsetIn f + 20 * linksIn f + 16) (length f)
+fills f = leb (linksIn f) mostLinks && eqb (offsetIn f + 20 * linksIn f + 16) (length f)
 
 -- the words of the records, read from where the trailer says that they begin
 unfoldable pub recordWords : List ℕ → List ℕ
-recordWords f = wordsFrom (drop (offsetIn f) f) 0 (5 * linksIn f)
+recordWords f = wordsFrom (drop (offsetIn f) f) 0 (linkWords * linksIn f)
 
 abbrev pub readChecks : List ℕ → ℕ → List Check
-readChecks f room = (17 unless signed f) ∷ (18 unless fills f) ∷ (19 unless leb (5 * linksIn f) room) ∷ []
+readChecks f table = (17 unless signed f) ∷ (18 unless fills f) ∷ (19 unless leb (linkWords * linksIn f) table) ∷ []
 
 -- n and m, or the refusal's number, for a table of so many words
-unfoldable pub readAnswer : List ℕ → ℕ → Reading
-readAnswer f room = checked Refused (readChecks f room) (Table (record { nodes = nodesIn f; links = linksIn f }))
+unfoldable pub readAnswer : List ℕ → ℕ → FileAnswer
+readAnswer f table = checked Refused (readChecks f table) (Table (record { nodes = nodesIn f; links = linksIn f }))
 
 -- the records' words in front, the rest untouched; a refusal changes none
 unfoldable pub tableRead : List ℕ → List ℕ → List ℕ
-tableRead f t = checked (λ _. t) (readChecks f (length t)) (recordWords f ++ drop (5 * linksIn f) t)
+tableRead f t = checked (λ _. t) (readChecks f (length t)) (recordWords f ++ drop (linkWords * linksIn f) t)

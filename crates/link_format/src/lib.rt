@@ -8,7 +8,7 @@ pub struct Size {
 }
 
 // What the reader answers: document 01's number, or n and m.
-pub enum Reading {
+pub enum FileAnswer {
     Refused(u32),
     Table(Size),
 }

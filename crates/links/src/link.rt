@@ -2,7 +2,10 @@
 ghost use mathlib.Core.Path.{_≡_};
 ghost use Prim.Native.Nat.{ℕ, _+_, _*_, _<_, _≤_};
 ghost use lib.ListN.{length, getD};
+ghost use Rattle.network.specs.Limits.{linkWords, mostLinks};
 ghost use Rattle.network.specs.Words.{field};
+use network::limits::LINK_WORDS;
+use network::limits::MOST_LINKS;
 
 // Which word of a link says what.
 pub const FROM: usize = 0;
@@ -24,23 +27,23 @@ pub fn wide(word: u32) -> usize
 
 // Word `j` of link `i`. The callers have checked the table's length.
 pub fn word(links: &[u32], i: usize, j: usize) -> u32
-    requires { ⌜ i < 256 ⌝ }
-    requires { ⌜ j < 5 ⌝ }
-    requires { ⌜ 5 * i + 5 ≤ length (now links) ⌝ }
+    requires { ⌜ i < mostLinks ⌝ }
+    requires { ⌜ j < linkWords ⌝ }
+    requires { ⌜ linkWords * i + linkWords ≤ length (now links) ⌝ }
     ensures { λ r. ⌜ r ≡ field (now (links .entry)) i j ⌝ }
 {
-    links[5 * i + j]
+    links[LINK_WORDS * i + j]
 }
 
 // Word `j` of every link; no link stands past the table's end, and there the column holds 0. The callers have checked
 // the table's length.
-pub fn column(links: &[u32], m: usize, j: usize) -> [u32; 256]
-    requires { ⌜ m ≤ 256 ⌝ }
-    requires { ⌜ j < 5 ⌝ }
-    requires { ⌜ length (now links) ≡ 5 * m ⌝ }
+pub fn column(links: &[u32], m: usize, j: usize) -> [u32; MOST_LINKS]
+    requires { ⌜ m ≤ mostLinks ⌝ }
+    requires { ⌜ j < linkWords ⌝ }
+    requires { ⌜ length (now links) ≡ linkWords * m ⌝ }
     ensures { λ r. ⌜ ((i : ℕ) → getD r i 0 ≡ field (now (links .entry)) i j) ⌝ }
 {
-    let mut words = [0; 256];
+    let mut words = [0; MOST_LINKS];
     for i in 0..m {
         words[i] = word(links, i, j);
     }

@@ -77,7 +77,7 @@ module _ (g : Net) (r : Request) (x : ℕ) (p : List ℕ) where
 abbrev Bounded : Net → Request → Outcome → Type 0
 Bounded g r no-path = Unit
 Bounded g r no-solution = Unit
-Bounded g r (granted k p) = WithinBounds g r p
+Bounded g r (granted which p) = WithinBounds g r p
 
 module _ (g : Net) (r : Request) (positive : 0 < r .coefficient) (D : 0 < delayBound r) (C : 0 < costBound r)
     (differ : r .source ≡ r .target → ⊥) where
@@ -90,8 +90,8 @@ module _ (g : Net) (r : Request) (positive : 0 < r .coefficient) (D : 0 < delayB
       solution-two-within g r (r .coefficient * k) p (x-positive g _ _ k _ differ positive far) D (best .solves)
 
   -- a granted path meets both bounds
-  pub found-within : (o : Outcome) → Found g r o → (k : ℕ) (p : List ℕ) → o ≡ granted k p → WithinBounds g r p
-  found-within o found k p e = subst (Bounded g r) e (bounded o found)
+  pub found-within : (o : Outcome) → Found g r o → (which : ℕ) (p : List ℕ) → o ≡ granted which p → WithinBounds g r p
+  found-within o found which p e = subst (Bounded g r) e (bounded o found)
 
   -- a path that meets one of the paper's two conditions is enough for a grant
   pub found-enough : (o : Outcome) → Found g r o → (k : ℕ) → Distance g (r .source) (r .target) k

@@ -9,6 +9,7 @@ use native.Mathlib.Omega.{arith}
 use lib.ListN.{length, getD, set, length-set}
 use lib.Seq.{getD-set-same, getD-set-other}
 use borrow.Author.Tests.{eq-eqb, ne-eqb, lt-leb}
+use Rattle.network.specs.Limits.{mostNodes}
 use Rattle.network.specs.Lists.{All, Distinct}
 use Rattle.network.specs.Net.{Net, Ends, Walk, IsPath, Some, nodesOf, sum}
 use Rattle.network.specs.NodeSet.{member}
@@ -43,8 +44,8 @@ module _ (g : Net) (i : ℕ) (n : Notes) where
   note-length : length (noteLink g i n .next) ≡ length (n .next)
   note-length = note-cases (λ l. length l ≡ length (n .next)) (λ e. refl) (λ e. length-set (n .next) (g .tail i) i)
 
--- a note for each of 32 nodes
-notes-length : (g : Net) (p : List ℕ) → length (notes g p .next) ≡ 32
+-- a note for each node that there may be
+notes-length : (g : Net) (p : List ℕ) → length (notes g p .next) ≡ mostNodes
 notes-length g [] = refl
 notes-length g (i ∷ p) = note-length g i (notes g p) ∙ notes-length g p
 
@@ -114,14 +115,14 @@ module _ (g : Net) (t : ℕ) where
   start-left s (i ∷ p) w away = rw (w .2) (member-inserted (notes g p .left) s)
 
   no-links : (p : List ℕ) (v : ℕ) → v ≡ t → Way p v
-  no-links p v e = record { links = []; led = e; less = λ x. omega arith }
+  no-links p v e = record { links = []; led = e; less = λ w. omega arith }
 
   -- one link more in front of the walk: the ways that there were stay
   further : (i : ℕ) (p : List ℕ) (v : ℕ) → Way p v → Way (i ∷ p) v
   further i p v way =
-      record { links = way .links; led = led-still i (notes g p) v (way .links) (way .led); less = λ x. omega (arith, way .less x) }
+      record { links = way .links; led = led-still i (notes g p) v (way .links) (way .led); less = λ w. omega (arith, way .less w) }
 
-  module _ (ends : Ends g) (few-nodes : g .nodes ≤ 32) where
+  module _ (ends : Ends g) (few-nodes : g .nodes ≤ mostNodes) where
     -- and a node that it leaves for the first time has a way through it
     onward : (i : ℕ) (p : List ℕ) → i < g .links → g .usable i ≡ true → (g .tail i ≡ t → ⊥) → member (notes g p .left) (g .tail i) ≡ false
         → Way p (g .head i)
@@ -142,7 +143,7 @@ module _ (g : Net) (t : ℕ) where
             led-apart n (g .tail i) (g .head i) (way .links) away new (way .led),
             led-still i n (g .head i) (way .links) (way .led),
           );
-          less = λ x. omega (arith, way .less x);
+          less = λ w. omega (arith, way .less w);
         }
 
     -- a way from t and from every node that was left
@@ -165,7 +166,7 @@ pub some-link : (g : Net) (s t : ℕ) → (s ≡ t → ⊥) → (p : List ℕ) �
 some-link g s t differ [] w = differ w
 some-link g s t differ (i ∷ p) w = tt
 
-module _ (g : Net) (ends : Ends g) (few-nodes : g .nodes ≤ 32) (s t : ℕ) (s-low : s < g .nodes) (p : List ℕ) (w : Walk g s t p) where
+module _ (g : Net) (ends : Ends g) (few-nodes : g .nodes ≤ mostNodes) (s t : ℕ) (s-low : s < g .nodes) (p : List ℕ) (w : Walk g s t p) where
   pub cut-walk : IsCut g s t p (cut g s t p)
   unfolding cut
   cut-walk =

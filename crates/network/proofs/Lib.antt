@@ -1,4 +1,6 @@
+mod Agreement
 pub mod Tests
+pub mod Ranges
 pub mod Loops
 pub mod Columns
 mod Words

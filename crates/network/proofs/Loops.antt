@@ -24,7 +24,7 @@ module _ {A : Type 0} (f : ℕ → A → A) where
 
   -- after the last turn
   pub iter-done : (n m : ℕ) (a : A) {b : A} → b ≡ iter f n a → n ≡ m → b ≡ iter f m a
-  iter-done n m a h q = h ∙ ap (λ k. iter f k a) q
+  iter-done n m a h q = h ∙ ap (λ count. iter f count a) q
 
   -- where no turn changes the state any more, further turns change nothing
   pub iter-stays : (n d : ℕ) (a b : A) → b ≡ iter f n a → ((i : ℕ) → f i b ≡ b) → b ≡ iter f (d + n) a

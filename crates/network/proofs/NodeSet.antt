@@ -15,10 +15,10 @@ use Rattle.network.proofs.Tests.{by-eq}
 or-bit : (a b w : ℕ) → bitOr a b / 2 ^ w % 2 ≡ bitOr (a / 2 ^ w % 2) (b / 2 ^ w % 2)
 or-bit a b w = rw or-shr (or-mod (a / 2 ^ w) (b / 2 ^ w) 1)
 
-or-one : (x : ℕ) → x < 2 → bitOr x 1 ≡ 1
+or-one : (n : ℕ) → n < 2 → bitOr n 1 ≡ 1
 or-one zero h = refl
 or-one (suc zero) h = refl
-or-one (suc (suc x)) h = absurd (omega arith)
+or-one (suc (suc n)) h = absurd (omega arith)
 
 power-below : (v w : ℕ) → w < v → 2 ^ v / 2 ^ w % 2 ≡ 0
 power-below v w h =

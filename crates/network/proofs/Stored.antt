@@ -37,9 +37,9 @@ pub from-none : (f : ℕ → ℕ) (t : List ℕ) (n : ℕ) → sets t 0 (from f 
 from-none f t n = rw sub-zero
 
 -- a turn stores what the function gives for i
-pub from-turn : (f : ℕ → ℕ) (t : List ℕ) (i n x : ℕ) → i < n → x ≡ f i
-    → sets (set t i x) (i + 1) (from f (i + 1) (n - (i + 1))) ≡ sets t i (from f i (n - i))
-from-turn f t i n x low e =
+pub from-turn : (f : ℕ → ℕ) (t : List ℕ) (i n word : ℕ) → i < n → word ≡ f i
+    → sets (set t i word) (i + 1) (from f (i + 1) (n - (i + 1))) ≡ sets t i (from f i (n - i))
+from-turn f t i n word low e =
     let d : n - i ≡ suc (n - (i + 1)) = omega arith in
     rw (e, d, add-one)
 

@@ -21,6 +21,9 @@ by-lt a b y n = by-bool (ltb a b) (λ e. y (ltb-true a b e)) (λ e. n (ltb-false
 pub by-eq : (a b : ℕ) {C : Type 0} → (a ≡ b → C) → ((a ≡ b → ⊥) → C) → C
 by-eq a b y n = by-bool (eqb a b) (λ e. y (eqb-true a b e)) (λ e. n (eqb-false a b e))
 
+pub both : (a b : Bool) → a ≡ true → b ≡ true → (a && b) ≡ true
+both a b p q = rw (p, q)
+
 pub fst-of : (a b : Bool) → (a && b) ≡ true → a ≡ true
 fst-of a b e = and-eq-true-iff a b .0 e .0
 

@@ -6,6 +6,7 @@ use mathlib.Core.List.{List, _∷_}
 use Prim.Native.Nat.{ℕ, suc, _+_, _*_}
 use native.Mathlib.Omega.{arith}
 use lib.ListN.{getD}
+use Rattle.network.specs.Limits.{linkWords}
 use Rattle.network.specs.Net.{Net}
 use Rattle.network.specs.Words.{field, netOf}
 
@@ -23,5 +24,5 @@ module _ (a b delay cost capacity : ℕ) (rest : List ℕ) where
 
   pub next-link : (i j : ℕ) → field (a ∷ b ∷ delay ∷ cost ∷ capacity ∷ rest) (i + 1) j ≡ field rest i j
   next-link i j =
-      let further : suc (suc (suc (suc (suc (5 * i + j))))) ≡ 5 * (i + 1) + j = omega arith in
+      let further : suc (suc (suc (suc (suc (linkWords * i + j))))) ≡ linkWords * (i + 1) + j = omega arith in
       subst (λ k. getD (a ∷ b ∷ delay ∷ cost ∷ capacity ∷ rest) k 0 ≡ field rest i j) further refl

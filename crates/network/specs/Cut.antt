@@ -6,6 +6,7 @@ use mathlib.Core.Bool.{Bool, cond, _||_}
 use mathlib.Core.List.{List, [], _∷_}
 use lib.Dec.{eqb, leb}
 use lib.ListN.{getD, set, replicate}
+use Rattle.network.specs.Limits.{mostNodes}
 use Rattle.network.specs.Net.{Net}
 use Rattle.network.specs.NodeSet.{member, inserted}
 
@@ -27,7 +28,7 @@ noteLink g i s = record { left = inserted (s .left) (g .tail i); next = noted (s
 
 -- the notes of a walk, its last link first
 abbrev pub notes : Net → List ℕ → Notes
-notes g [] = record { left = 0; next = replicate 32 0 }
+notes g [] = record { left = 0; next = replicate mostNodes 0 }
 notes g (i ∷ p) = noteLink g i (notes g p)
 
 -- the links that lead from v to t by the notes, f of them at most

@@ -1,4 +1,4 @@
--- A set of nodes 0 to 31 in one word: v is in it where bit v is 1. Document 01's form for the nodes already on a path.
+-- A set of nodes in one word: v is in it where bit v is 1. Document 01's form for the nodes already on a path.
 -- Assumes nothing.
 use Prim.Native.Nat.{ℕ, _/_, _%_, _^_}
 use mathlib.Core.Bool.{Bool}

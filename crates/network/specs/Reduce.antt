@@ -4,6 +4,7 @@ use Prim.Native.Nat.{ℕ, _*_, _≤_}
 use mathlib.Core.Logic.{_⊎_}
 use mathlib.Core.List.{List}
 use lib.ListN.{length}
+use Rattle.network.specs.Ranges.{TermsFit}
 use Rattle.network.specs.declared.Request.{Request}
 use Rattle.network.specs.Net.{Net, sum}
 use Rattle.network.specs.Scale.{scaled, Overqualified}
@@ -15,6 +16,10 @@ delayBound r = r .«delay_bound»
 
 abbrev pub costBound : Request → ℕ
 costBound r = r .«cost_bound»
+
+-- what it asks for, whatever its nodes, is in document 01's ranges
+abbrev pub TermsInRange : Request → Type 0
+TermsInRange r = TermsFit (r .units) (delayBound r) (costBound r) (r .coefficient)
 
 -- the request of these numbers, in document 01's order: s, t, b, D, C and the coefficient
 abbrev pub asking : ℕ → ℕ → ℕ → ℕ → ℕ → ℕ → Request

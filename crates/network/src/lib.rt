@@ -1,5 +1,7 @@
 // Networks of links: what a path, a scaled weight, a reduced problem and a solution are (specs/), with their laws (proofs/).
-// There is no code here but the types of a request and of a search's answer. Every other room speaks in these terms.
+// There is no code here but document 01's numbers (`limits`) and the types of a request and of a search's answer. Every other
+// room speaks in these terms.
+pub mod limits;
 
 // A request of document 01: from source to target for some units, within both bounds; the search's x is the
 // coefficient times the distance.
@@ -21,7 +23,7 @@ pub struct Grant {
 }
 
 // What a search answers.
-pub enum Answer {
+pub enum SearchAnswer {
     // No usable path exists.
     NoPath,
     // Usable paths exist, and none solves either problem.

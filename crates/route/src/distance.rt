@@ -2,7 +2,7 @@
 ghost use mathlib.Core.Path.{_≡_};
 ghost use Prim.Native.Nat.{_≤_, _<_};
 ghost use lib.ListN.{length};
-ghost use Rattle.network.specs.Words.{netOf, Links};
+ghost use Rattle.network.specs.Words.{netOf, LinkTable};
 ghost use Rattle.search.specs.Distance.{spreadLink, spread, distance};
 use links::link;
 use links::node_set;
@@ -17,7 +17,7 @@ fn spread_link(
     i: usize,
     more: u32,
 ) -> u32
-    requires { ⌜ Links n m (now links) ⌝ }
+    requires { ⌜ LinkTable n m (now links) ⌝ }
     requires { ⌜ m ≤ length (now usable) ⌝ }
     requires { ⌜ i < m ⌝ }
     ensures { λ r. ⌜ r ≡ spreadLink (netOf n m (now (links .entry)) (now (usable .entry))) set i more ⌝ }
@@ -35,7 +35,7 @@ fn spread_link(
 
 // The set with the heads of all usable links that leave it.
 fn spread(n: usize, m: usize, links: &[u32], usable: &[u32], set: u32) -> u32
-    requires { ⌜ Links n m (now links) ⌝ }
+    requires { ⌜ LinkTable n m (now links) ⌝ }
     requires { ⌜ m ≤ length (now usable) ⌝ }
     ensures { λ r. ⌜ r ≡ spread (netOf n m (now (links .entry)) (now (usable .entry))) set ⌝ }
 {
@@ -48,7 +48,7 @@ fn spread(n: usize, m: usize, links: &[u32], usable: &[u32], set: u32) -> u32
 
 // The fewest links of a usable path from `s` to `t`, or `n` where there is none. `search` requires as much and calls it.
 pub fn distance(n: usize, m: usize, links: &[u32], usable: &[u32], s: usize, t: usize) -> usize
-    requires { ⌜ Links n m (now links) ⌝ }
+    requires { ⌜ LinkTable n m (now links) ⌝ }
     requires { ⌜ m ≤ length (now usable) ⌝ }
     requires { ⌜ (s < n) × (t < n) ⌝ }
     ensures { λ r. ⌜ r ≡ distance (netOf n m (now (links .entry)) (now (usable .entry))) s t ⌝ }

@@ -8,7 +8,7 @@
 // and each caller shows it; what `search` requires, the upper crate's calls have checked before they search.
 ghost use mathlib.Core.Path.{_≡_};
 ghost use Rattle.network.specs.Words.{netOf};
-ghost use Rattle.search.specs.Result.{Ready, outcome, answerOf, pathAfter};
+ghost use Rattle.search.specs.Result.{Ready, outcome, searchAnswerOf, pathAfter};
 
 mod attempt;
 mod distance;
@@ -23,8 +23,8 @@ mod weights;
 use crate::distance::distance;
 use crate::problems::both_problems;
 use links::link;
-use network::Answer;
 use network::Request;
+use network::SearchAnswer;
 
 // Searches for a path for request `r` among `m` links and `n` nodes; a link whose flag in `usable` is 1 is usable.
 // A granted path stands in the first words of `path`. Work memory may hold anything before, and is open after.
@@ -37,16 +37,16 @@ pub fn search(
     work: &mut [u32],
     path: &mut [u32],
     r: Request,
-) -> Answer
+) -> SearchAnswer
     requires { ⌜ Ready n m (now links) (now usable) (now work) (now path) r ⌝ }
-    ensures answer { λ a. ⌜ a ≡ answerOf (netOf n m (now (links .entry)) (now (usable .entry))) (outcome (netOf n m (now (links .entry)) (now (usable .entry))) r) ⌝ }
+    ensures answer { λ a. ⌜ a ≡ searchAnswerOf (netOf n m (now (links .entry)) (now (usable .entry))) (outcome (netOf n m (now (links .entry)) (now (usable .entry))) r) ⌝ }
     ensures path { λ a. ⌜ now (path .exit) ≡ pathAfter (outcome (netOf n m (now (links .entry)) (now (usable .entry))) r) (now (path .entry)) ⌝ }
 {
     let s = link::wide(r.source);
     let t = link::wide(r.target);
     let far = distance(n, m, links, usable, s, t);
     if n <= far {
-        return Answer::NoPath;
+        return SearchAnswer::NoPath;
     }
     let x = link::wide(r.coefficient) * far;
     both_problems(n, m, links, usable, work, path, r, x)

@@ -4,24 +4,26 @@ ghost use mathlib.Core.List.{[]};
 ghost use mathlib.Core.Path.{_≡_};
 ghost use Prim.Native.Nat.{_+_, _≤_, _<_};
 ghost use lib.ListN.{length};
-ghost use Rattle.network.specs.Words.{netOf, Links};
+ghost use Rattle.network.specs.Limits.{mostPathLinks, pathWords};
+ghost use Rattle.network.specs.Words.{netOf, LinkTable};
 ghost use Rattle.search.specs.Forward.{OnWay, advanced, forwarded};
 use links::link;
-use search::Leg;
+use network::limits::MOST_NODES;
+use search::PartialPath;
 
 // One link more, unless the path has come to t. The test of the note keeps any notes safe to read.
 fn advance(
     n: usize,
     m: usize,
     links: &[u32],
-    next: &[u32; 32],
+    next: &[u32; MOST_NODES as usize],
     path: &mut [u32],
     t: usize,
     k: usize,
-    w: Leg,
-) -> Leg
-    requires { ⌜ Links n m (now links) ⌝ }
-    requires { ⌜ (31 ≤ length (now path)) × (k < 31) × OnWay n k w ⌝ }
+    w: PartialPath,
+) -> PartialPath
+    requires { ⌜ LinkTable n m (now links) ⌝ }
+    requires { ⌜ (pathWords ≤ length (now path)) × (k < mostPathLinks) × OnWay n k w ⌝ }
     ensures is { λ r. ⌜ (r, now (path .exit)) ≡ advanced (netOf n m (now (links .entry)) []) (now (next .entry)) t (w, now (path .entry)) ⌝ }
     ensures on { λ r. ⌜ OnWay n (k + 1) r ⌝ }
 {
@@ -35,7 +37,7 @@ fn advance(
     }
     let place = w.links;
     path[place] = next[at];
-    Leg {
+    PartialPath {
         node: link::wide(link::word(links, i, link::TO)),
         links: w.links + 1,
         delay: w.delay + link::word(links, i, link::DELAY),
@@ -48,17 +50,17 @@ pub fn forward(
     n: usize,
     m: usize,
     links: &[u32],
-    next: &[u32; 32],
+    next: &[u32; MOST_NODES as usize],
     path: &mut [u32],
     s: usize,
     t: usize,
-) -> Leg
-    requires { ⌜ Links n m (now links) ⌝ }
-    requires { ⌜ (31 ≤ length (now path)) × (s < n) ⌝ }
+) -> PartialPath
+    requires { ⌜ LinkTable n m (now links) ⌝ }
+    requires { ⌜ (pathWords ≤ length (now path)) × (s < n) ⌝ }
     ensures is { λ r. ⌜ (r, now (path .exit)) ≡ forwarded (netOf n m (now (links .entry)) []) (now (next .entry)) s t (now (path .entry)) ⌝ }
-    ensures on { λ r. ⌜ OnWay n 31 r ⌝ }
+    ensures on { λ r. ⌜ OnWay n mostPathLinks r ⌝ }
 {
-    let mut w = Leg {
+    let mut w = PartialPath {
         node: s,
         links: 0,
         delay: 0,

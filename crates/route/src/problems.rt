@@ -1,16 +1,17 @@
 // Section 2.3 of the paper: problem one, and only where it has no solution problem two, with the weights exchanged.
 ghost use mathlib.Core.Path.{_≡_};
 ghost use Prim.Native.Nat.{_≤_};
+ghost use Rattle.network.specs.Limits.{mostX};
 ghost use Rattle.network.specs.Words.{netOf};
 ghost use Rattle.search.specs.Heuristic.{tried};
-ghost use Rattle.search.specs.Result.{Ready, answerOf, pathAfter};
+ghost use Rattle.search.specs.Result.{Ready, searchAnswerOf, pathAfter};
 ghost use Rattle.search.specs.Roles.{Weights, outcomeBy};
 use crate::attempt::attempt;
 use crate::weights::scaled_column;
 use links::link;
 use links::link::column;
-use network::Answer;
 use network::Request;
+use network::SearchAnswer;
 use search::Reduced;
 use search::Roles;
 
@@ -26,10 +27,10 @@ fn reduced_problem(
     r: Request,
     x: usize,
     w: Roles,
-) -> Answer
+) -> SearchAnswer
     requires { ⌜ Ready n m (now links) (now usable) (now work) (now path) r ⌝ }
-    requires { ⌜ (x ≤ 248) × Weights w ⌝ }
-    ensures answer { λ a. ⌜ a ≡ answerOf (netOf n m (now (links .entry)) (now (usable .entry))) (outcomeBy n m (now (links .entry)) (now (usable .entry)) r x w) ⌝ }
+    requires { ⌜ (x ≤ mostX) × Weights w ⌝ }
+    ensures answer { λ a. ⌜ a ≡ searchAnswerOf (netOf n m (now (links .entry)) (now (usable .entry))) (outcomeBy n m (now (links .entry)) (now (usable .entry)) r x w) ⌝ }
     ensures path { λ a. ⌜ now (path .exit) ≡ pathAfter (outcomeBy n m (now (links .entry)) (now (usable .entry)) r x w) (now (path .entry)) ⌝ }
 {
     let s = link::wide(r.source);
@@ -46,7 +47,7 @@ fn reduced_problem(
 }
 
 // The answer for request `r` at `x`: the second problem is tried only where the first has no solution. `search` calls it
-// with x at most 248, and requires the rest itself.
+// with x in its range, and requires the rest itself.
 pub fn both_problems(
     n: usize,
     m: usize,
@@ -56,10 +57,10 @@ pub fn both_problems(
     path: &mut [u32],
     r: Request,
     x: usize,
-) -> Answer
+) -> SearchAnswer
     requires { ⌜ Ready n m (now links) (now usable) (now work) (now path) r ⌝ }
-    requires { ⌜ x ≤ 248 ⌝ }
-    ensures answer { λ a. ⌜ a ≡ answerOf (netOf n m (now (links .entry)) (now (usable .entry))) (tried (netOf n m (now (links .entry)) (now (usable .entry))) r x) ⌝ }
+    requires { ⌜ x ≤ mostX ⌝ }
+    ensures answer { λ a. ⌜ a ≡ searchAnswerOf (netOf n m (now (links .entry)) (now (usable .entry))) (tried (netOf n m (now (links .entry)) (now (usable .entry))) r x) ⌝ }
     ensures path { λ a. ⌜ now (path .exit) ≡ pathAfter (tried (netOf n m (now (links .entry)) (now (usable .entry))) r x) (now (path .entry)) ⌝ }
 {
     let one = Roles {
@@ -77,7 +78,7 @@ pub fn both_problems(
         other_bound: r.delay_bound,
     };
     let first = reduced_problem(n, m, links, usable, work, path, r, x, one);
-    let Answer::NoSolution = first else {
+    let SearchAnswer::NoSolution = first else {
         return first;
     };
     reduced_problem(n, m, links, usable, work, path, r, x, two)

@@ -3,24 +3,26 @@ ghost use mathlib.Core.Path.{_≡_};
 ghost use mathlib.Core.Bool.{false};
 ghost use Prim.Native.Nat.{_+_, _≤_, _<_};
 ghost use lib.ListN.{length, getD};
-ghost use Rattle.search.specs.ebf.Table.{number, improved, relaxed, offered};
-ghost use Rattle.search.specs.Solver.{Prepared, Sound, netIn, unflagged, problemOf};
+ghost use Rattle.network.specs.Limits.{mostBound, mostLinks, mostWeight, workWords};
+ghost use Rattle.search.specs.ebf.Table.{number, improved, relaxed, offered, mostCells};
+ghost use Rattle.search.specs.Solver.{Prepared, Flagged, netIn, unflagged, problemOf};
 ghost use Rattle.search.specs.ebf.OnTable.{Bounded};
 ghost use Rattle.search.specs.ebf.Relaxing.{Hopped, Own};
 use crate::table::cell;
 use links::link;
+use network::limits::MOST_LINKS;
 use search::Hop;
 use search::Reduced;
 
 // Lines 8 to 10: link `i` of kept weight `weight` leads from cell `a` to cell `b`. Gives false only where the table is as
 // it was. From ∞, which is bound + 1, nothing less than bound + 1 is offered, so that needs no test of its own.
 fn improve(work: &mut [u32], a: usize, b: usize, weight: u32, bound: u32, i: usize) -> bool
-    requires { ⌜ 16384 ≤ length (now work) ⌝ }
-    requires { ⌜ (a < 7968) × (b < 7968) × (i < 256) ⌝ }
+    requires { ⌜ workWords ≤ length (now work) ⌝ }
+    requires { ⌜ (a < mostCells) × (b < mostCells) × (i < mostLinks) ⌝ }
     requires { ⌜ (number (now work) a ≤ bound + 1) × (number (now work) b ≤ bound + 1) ⌝ }
-    requires { ⌜ (weight ≤ 1000000) × (bound ≤ 31000000) ⌝ }
+    requires { ⌜ (weight ≤ mostWeight) × (bound ≤ mostBound) ⌝ }
     ensures is { λ _. ⌜ now (work .exit) ≡ improved a b weight bound i (now (work .entry)) ⌝ }
-    ensures told { λ r. ⌜ (r ≡ false → now (work .entry) ≡ now (work .exit)) ⌝ }
+    ensures says { λ r. ⌜ (r ≡ false → now (work .entry) ≡ now (work .exit)) ⌝ }
 {
     let d = work[2 * a] + weight;
     if d < work[2 * b] {
@@ -46,7 +48,13 @@ fn due(stored: bool, step: usize, again: bool) -> bool
 }
 
 // What a relaxation reads of link `i`.
-fn read_hop(links: &[u32], kept: &[u32; 256], scaled: &[u32; 256], p: Reduced, i: usize) -> Hop
+fn read_hop(
+    links: &[u32],
+    kept: &[u32; MOST_LINKS],
+    scaled: &[u32; MOST_LINKS],
+    p: Reduced,
+    i: usize,
+) -> Hop
     requires { ⌜ Prepared p (now links) (now kept) ⌝ }
     requires { ⌜ i < p .links ⌝ }
     ensures { λ h. ⌜ Hopped (now (links .entry)) (now (kept .entry)) (now (scaled .entry)) i h ⌝ }
@@ -64,18 +72,18 @@ fn read_hop(links: &[u32], kept: &[u32; 256], scaled: &[u32; 256], p: Reduced, i
 fn relax(
     work: &mut [u32],
     links: &[u32],
-    kept: &[u32; 256],
-    scaled: &[u32; 256],
+    kept: &[u32; MOST_LINKS],
+    scaled: &[u32; MOST_LINKS],
     p: Reduced,
     k: usize,
     i: usize,
     again: bool,
 ) -> bool
     requires { ⌜ Prepared p (now links) (now kept) ⌝ }
-    requires { ⌜ (16384 ≤ length (now work)) × Bounded p (now work) ⌝ }
+    requires { ⌜ (workWords ≤ length (now work)) × Bounded p (now work) ⌝ }
     requires { ⌜ (k ≤ p .x) × (i < p .links) ⌝ }
     ensures is { λ _. ⌜ now (work .exit) ≡ relaxed (unflagged p (now (links .entry))) (problemOf p (now (kept .entry)) (now (scaled .entry))) k i (now (work .entry)) ⌝ }
-    ensures told { λ r. ⌜ (r ≡ false → Own again (getD (now (scaled .entry)) i 0) (now (work .entry)) (now (work .exit))) ⌝ }
+    ensures says { λ r. ⌜ (r ≡ false → Own again (getD (now (scaled .entry)) i 0) (now (work .entry)) (now (work .exit))) ⌝ }
 {
     let h = read_hop(links, kept, scaled, p, i);
     if p.x - k < h.step {
@@ -99,18 +107,18 @@ pub fn offer(
     work: &mut [u32],
     links: &[u32],
     usable: &[u32],
-    kept: &[u32; 256],
-    scaled: &[u32; 256],
+    kept: &[u32; MOST_LINKS],
+    scaled: &[u32; MOST_LINKS],
     p: Reduced,
     k: usize,
     i: usize,
     again: bool,
 ) -> bool
-    requires { ⌜ Sound p (now links) (now usable) (now kept) ⌝ }
-    requires { ⌜ (16384 ≤ length (now work)) × Bounded p (now work) ⌝ }
+    requires { ⌜ Flagged p (now links) (now usable) (now kept) ⌝ }
+    requires { ⌜ (workWords ≤ length (now work)) × Bounded p (now work) ⌝ }
     requires { ⌜ (k ≤ p .x) × (i < p .links) ⌝ }
     ensures is { λ _. ⌜ now (work .exit) ≡ offered (netIn p (now (links .entry)) (now (usable .entry))) (problemOf p (now (kept .entry)) (now (scaled .entry))) k i (now (work .entry)) ⌝ }
-    ensures told { λ r. ⌜ (r ≡ false → Own again (getD (now (scaled .entry)) i 0) (now (work .entry)) (now (work .exit))) ⌝ }
+    ensures says { λ r. ⌜ (r ≡ false → Own again (getD (now (scaled .entry)) i 0) (now (work .entry)) (now (work .exit))) ⌝ }
 {
     if usable[i] != 1 {
         return again;

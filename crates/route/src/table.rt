@@ -4,34 +4,35 @@ ghost use mathlib.Core.List.{[]};
 ghost use mathlib.Core.Path.{_≡_};
 ghost use Prim.Native.Nat.{_+_, _≤_, _<_};
 ghost use lib.ListN.{length};
-ghost use Rattle.search.specs.ebf.Table.{cell, cells, filled, initialised};
+ghost use Rattle.network.specs.Limits.{mostBound, mostNodes, mostX, workWords};
+ghost use Rattle.search.specs.ebf.Table.{cell, cells, filled, initialised, mostCells};
 ghost use Rattle.search.specs.Solver.{unflagged, scaledOnly};
 use search::Reduced;
 
-// The cell of d[v, k]. The callers have v below 32, x at most 248 and k at most x, from what `search` requires.
+// The cell of d[v, k]. The callers have v and x in their ranges and k at most x, from what `search` requires.
 pub fn cell(x: usize, v: usize, k: usize) -> usize
-    requires { ⌜ v < 32 ⌝ }
-    requires { ⌜ x ≤ 248 ⌝ }
+    requires { ⌜ v < mostNodes ⌝ }
+    requires { ⌜ x ≤ mostX ⌝ }
     requires { ⌜ k ≤ x ⌝ }
     ensures is { λ r. ⌜ r ≡ cell x v k ⌝ }
-    ensures below { λ r. ⌜ r < 7968 ⌝ }
+    ensures below { λ r. ⌜ r < mostCells ⌝ }
 {
     v * (x + 1) + k
 }
 
-// How many cells the table has. The callers have at most 32 nodes and x at most 248.
+// How many cells the table has. The callers have nodes and x in their ranges.
 pub fn cells(n: usize, x: usize) -> usize
-    requires { ⌜ n ≤ 32 ⌝ }
-    requires { ⌜ x ≤ 248 ⌝ }
+    requires { ⌜ n ≤ mostNodes ⌝ }
+    requires { ⌜ x ≤ mostX ⌝ }
     ensures is { λ r. ⌜ r ≡ cells n x ⌝ }
-    ensures below { λ r. ⌜ r ≤ 7968 ⌝ }
+    ensures below { λ r. ⌜ r ≤ mostCells ⌝ }
 {
     n * (x + 1)
 }
 
 // The `n` cells from `a` on get the number `d`.
 fn fill(work: &mut [u32], a: usize, n: usize, d: u32)
-    requires { ⌜ (a + n ≤ 7968) × (16384 ≤ length (now work)) ⌝ }
+    requires { ⌜ (a + n ≤ mostCells) × (workWords ≤ length (now work)) ⌝ }
     ensures { λ _. ⌜ now (work .exit) ≡ filled a n d (now (work .entry)) ⌝ }
 {
     for j in 0..n {
@@ -43,9 +44,9 @@ fn fill(work: &mut [u32], a: usize, n: usize, d: u32)
 // is within the bound, and was written with it. The contract gives the definition no links and no weights, since these
 // lines ask for none. `attempt` calls it, with work memory of the length that document 01 asks for.
 pub fn initialise(work: &mut [u32], p: Reduced, s: usize)
-    requires { ⌜ (p .nodes ≤ 32) × (p .x ≤ 248) × (p .bound ≤ 31000000) ⌝ }
-    requires { ⌜ 16384 ≤ length (now work) ⌝ }
-    requires { ⌜ s < 32 ⌝ }
+    requires { ⌜ (p .nodes ≤ mostNodes) × (p .x ≤ mostX) × (p .bound ≤ mostBound) ⌝ }
+    requires { ⌜ workWords ≤ length (now work) ⌝ }
+    requires { ⌜ s < mostNodes ⌝ }
     ensures { λ _. ⌜ now (work .exit) ≡ initialised (unflagged p []) (scaledOnly p []) s (now (work .entry)) ⌝ }
 {
     fill(work, 0, cells(p.nodes, p.x), p.bound + 1);

@@ -9,16 +9,18 @@ use mathlib.Core.Logic.{_⊎_, inl, inr}
 use native.Mathlib.Omega.{arith}
 use lib.ListN.{length, getD}
 use borrow.Author.Tests.{leb-true, ltb-true}
+use Rattle.network.specs.Limits.{mostPathLinks}
 use Rattle.network.specs.Lists.{memb}
 use Rattle.network.specs.Net.{Net, IsPath}
 use Rattle.network.specs.declared.Request.{Request}
 use Rattle.network.proofs.Tests.{by-bool, by-lt}
 use Rattle.network.proofs.Paths.{walk-links}
 use Rattle.network.proofs.Short.{path-short}
+use Rattle.area.specs.Layout.{mostCircuits}
 use Rattle.area.specs.Station.{Station, station}
 use Rattle.area.specs.Books.{holds, free, books, net}
 use Rattle.area.specs.Held.{foundAt}
-use Rattle.area.specs.Formed.{CircuitFits, Sound, WellFormed}
+use Rattle.area.specs.Formed.{CircuitFits, SoundStation, WellFormed}
 use Rattle.area.specs.Moves.{withCircuit, withoutNumber, Untouched}
 use Rattle.search.specs.Result.{GrantedByOne, GrantedByTwo}
 use Rattle.area.specs.Refusals.{refuses, grants}
@@ -45,10 +47,10 @@ grant-path {g = g} {r = r} {a = a} h = go (h .least)
     go (inl (e, h)) = h .2 .solves .path
     go (inr (e, h)) = h .3 .solves .path
 
--- a path of the network that a request sees has at most 31 links, since it has fewer than there are nodes
+-- a path of the network that a request sees has no more links than a path may, since it has fewer than there are nodes
 pub seen-short : (w : List ℕ) (r : Request) → WellFormed w → RequestFits (booksIn w .table .nodes) r
     → (p : List ℕ) → IsPath (netFor w r) (r .source) (r .target) p
-    → length p ≤ 31
+    → length p ≤ mostPathLinks
 seen-short w r formed fits p path =
     let ok = area-searchable w r formed fits in
     omega (arith, path-short (netFor w r) (ok .ends) (r .source) (r .target) (ok .source) p path, ok .few)
@@ -59,31 +61,31 @@ pub record Accepted (w : List ℕ) (c : ℕ) (r : Request) (g : PathGrant) : Typ
   pub formed : WellFormed w
   pub request : RequestFits (booksIn w .table .nodes) r
   pub number : NumberFits (booksIn w) c
-  pub room : booksIn w .count < 64
+  pub few : booksIn w .count < mostCircuits
   pub grant : Grant (netFor w r) r g
 
-module _ (w : List ℕ) (work room c : ℕ) (r : Request) (g : PathGrant) (e : admission w work room c r ≡ grants g) where
+module _ (w : List ℕ) (work path c : ℕ) (r : Request) (g : PathGrant) (e : admission w work path c r ≡ grants g) where
   abbrev p : List ℕ
   p = g .path
 
   -- a grant comes past every rule and from the search
   pub admission-granted : Accepted w c r g
   admission-granted =
-      let h = subst (Admitted w work room c r) e (admission-means w work room r c) in
+      let h = subst (Admitted w work path c r) e (admission-means w work path r c) in
       let past = h .0 .1 .1 .1 in
       record {
         formed = formed-past w (h .0 .0);
         request = request-past _ r (past .0);
         number = number-past (booksIn w) c (past .1 .0);
-        room = by-lt (booksIn w .count) 64 (λ low. low) (λ high. absurd (past .1 .1 .0 high));
+        few = by-lt (booksIn w .count) mostCircuits (λ low. low) (λ high. absurd (past .1 .1 .0 high));
         grant = h .1;
       }
 
-  path : IsPath (netFor w r) (r .source) (r .target) p
-  path = grant-path (admission-granted .grant)
+  is-path : IsPath (netFor w r) (r .source) (r .target) p
+  is-path = grant-path (admission-granted .grant)
 
-  short : length p ≤ 31
-  short = seen-short w r (admission-granted .formed) (admission-granted .request) p path
+  short : length p ≤ mostPathLinks
+  short = seen-short w r (admission-granted .formed) (admission-granted .request) p is-path
 
   -- the circuit fits the table
   pub admitted-fits : CircuitFits (station w .table) (circuitFor c (r .units) p)
@@ -92,27 +94,27 @@ module _ (w : List ℕ) (work room c : ℕ) (r : Request) (g : PathGrant) (e : a
       record {
         number-least = admission-granted .number .least;
         number-most = admission-granted .number .most;
-        units-least = admission-granted .request .units-least;
-        units-most = admission-granted .request .units-most;
-        links-least = some-link p path;
+        units-least = admission-granted .request .terms .units-least;
+        units-most = admission-granted .request .terms .units-most;
+        links-least = some-link p is-path;
         links-most = short;
-        path = (r .source, r .target, whole-path (booksIn w) (r .units) (r .source) (r .target) p path);
+        path = (r .source, r .target, whole-path (booksIn w) (r .units) (r .source) (r .target) p is-path);
       }
 
   -- the links of the path have the units free
   pub admitted-free : (i : ℕ) → memb i p ≡ true → r .units ≤ free (station w) i
   unfolding net books
   admitted-free i h =
-      leb-true (r .units) (free (station w) i) (walk-links (netFor w r) (r .source) (r .target) p (path .walk) i h .1)
+      leb-true (r .units) (free (station w) i) (walk-links (netFor w r) (r .source) (r .target) p (is-path .walk) i h .1)
 
   -- the station after has the circuit more, and no other change
   pub admitted-station : station (booked w c (r .units) (grants g)) ≡ withCircuit (station w) (circuitFor c (r .units) p)
   unfolding booked
   admitted-station =
       added-station w (circuitFor c (r .units) p) (admission-granted .formed .long) (links-few w (admission-granted .formed))
-      (omega (arith, count-is w, admission-granted .room)) short
+      (omega (arith, count-is w, admission-granted .few)) short
 
-  -- one more is held; since 12 is refused only where 64 are, 64 can be held
+  -- one more is held; since 12 is refused only where as many as may be held are, so many can be
   pub admitted-count : booksIn (booked w c (r .units) (grants g)) .count ≡ suc (booksIn w .count)
   unfolding books
   admitted-count = ap (λ (s : Station). length (s .held)) admitted-station
@@ -123,51 +125,51 @@ module _ (w : List ℕ) (work room c : ℕ) (r : Request) (g : PathGrant) (e : a
       record {
         long = omega (arith, added-long w (circuitFor c (r .units) p), admission-granted .formed .long);
         sound =
-            subst Sound (sym admitted-station)
-            (sound-added (station w) (circuitFor c (r .units) p) (admission-granted .formed .sound) (admission-granted .room) admitted-fits
+            subst SoundStation (sym admitted-station)
+            (sound-added (station w) (circuitFor c (r .units) p) (admission-granted .formed .sound) (admission-granted .few) admitted-fits
             (admission-granted .number .new) admitted-free);
       }
 
   granted-untouched : Untouched w (booked w c (r .units) (grants g))
   unfolding booked
-  granted-untouched = added-untouched w (circuitFor c (r .units) p) (omega (arith, count-is w, admission-granted .room)) short
+  granted-untouched = added-untouched w (circuitFor c (r .units) p) (omega (arith, count-is w, admission-granted .few)) short
 
 -- ---- any admission
 -- a refusal leaves the words as they are
 same-untouched : (w : List ℕ) → Untouched w w
 same-untouched w = record { nodes = refl; links = refl; table = λ i from low. refl; past = λ i high. refl; long = refl }
 
-module _ (w : List ℕ) (work room c : ℕ) (r : Request) where
+module _ (w : List ℕ) (work path c : ℕ) (r : Request) where
   -- a well-formed area stays well formed
-  pub admitted-formed : WellFormed w → WellFormed (booked w c (r .units) (admission w work room c r))
+  pub admitted-formed : WellFormed w → WellFormed (booked w c (r .units) (admission w work path c r))
   unfolding booked
-  admitted-formed formed = go (admission w work room c r) refl
+  admitted-formed formed = go (admission w work path c r) refl
     where
-      go : (a : PathReply) → admission w work room c r ≡ a → WellFormed (booked w c (r .units) a)
+      go : (a : PathReply) → admission w work path c r ≡ a → WellFormed (booked w c (r .units) a)
       go (refuses n) e = formed
-      go (grants g) e = granted-formed w work room c r g e
+      go (grants g) e = granted-formed w work path c r g e
 
   -- n, m, the links and the words past the circuits stay
-  pub admitted-untouched : Untouched w (booked w c (r .units) (admission w work room c r))
+  pub admitted-untouched : Untouched w (booked w c (r .units) (admission w work path c r))
   unfolding booked
-  admitted-untouched = go (admission w work room c r) refl
+  admitted-untouched = go (admission w work path c r) refl
     where
-      go : (a : PathReply) → admission w work room c r ≡ a → Untouched w (booked w c (r .units) a)
+      go : (a : PathReply) → admission w work path c r ≡ a → Untouched w (booked w c (r .units) a)
       go (refuses n) e = same-untouched w
-      go (grants g) e = granted-untouched w work room c r g e
+      go (grants g) e = granted-untouched w work path c r g e
 
   -- the area after it is what the rules leave
-  pub admitted-area : AreaBooked w c (r .units) (admission w work room c r) (booked w c (r .units) (admission w work room c r))
+  pub admitted-area : AreaBooked w c (r .units) (admission w work path c r) (booked w c (r .units) (admission w work path c r))
   unfolding booked
-  admitted-area = go (admission w work room c r) refl
+  admitted-area = go (admission w work path c r) refl
     where
-      go : (a : PathReply) → admission w work room c r ≡ a → AreaBooked w c (r .units) a (booked w c (r .units) a)
+      go : (a : PathReply) → admission w work path c r ≡ a → AreaBooked w c (r .units) a (booked w c (r .units) a)
       go (refuses n) e = refl
       go (grants g) e =
           record {
-            holds = agrees-eq (admitted-station w work room c r g e) .held;
-            formed = granted-formed w work room c r g e;
-            untouched = granted-untouched w work room c r g e;
+            holds = agrees-eq (admitted-station w work path c r g e) .held;
+            formed = granted-formed w work path c r g e;
+            untouched = granted-untouched w work path c r g e;
           }
 
 -- ---- a granted release
@@ -190,7 +192,7 @@ module _ (w : List ℕ) (c : ℕ) (e : release w c ≡ releases) where
   unheld-formed =
       record {
         long = omega (arith, removed-long w (foundAt w (getD w 2 0) c), passed .0 .long);
-        sound = subst Sound (sym released-station) (sound-removed (station w) c (passed .0 .sound));
+        sound = subst SoundStation (sym released-station) (sound-removed (station w) c (passed .0 .sound));
       }
 
   unheld-untouched : Untouched w (cleared w c releases)
@@ -199,12 +201,12 @@ module _ (w : List ℕ) (c : ℕ) (e : release w c ≡ releases) where
       removed-untouched w (foundAt w (getD w 2 0) c) (held-few w (passed .0))
       (ltb-true (foundAt w (getD w 2 0) c) (getD w 2 0) (sym (holds-found w (getD w 2 0) c) ∙ passed .1))
 
-  -- the number may be used again, and there is room for a circuit
-  pub released-again : NumberFits (booksIn (cleared w c releases)) c × (booksIn (cleared w c releases) .count < 64)
+  -- the number may be used again, and there is a place for a circuit
+  pub released-again : NumberFits (booksIn (cleared w c releases)) c × (booksIn (cleared w c releases) .count < mostCircuits)
   unfolding books
-  released-again = subst (λ (s : Station). NumberFits (books s) c × (books s .count < 64)) (sym released-station) again
+  released-again = subst (λ (s : Station). NumberFits (books s) c × (books s .count < mostCircuits)) (sym released-station) again
     where
-      again : NumberFits (books (withoutNumber (station w) c)) c × (books (withoutNumber (station w) c) .count < 64)
+      again : NumberFits (books (withoutNumber (station w) c)) c × (books (withoutNumber (station w) c) .count < mostCircuits)
       again =
           let range = held-number (station w .table) (station w .held) c (passed .0 .sound .each) (passed .1) in (
             record { least = range .0; most = range .1; new = without-gone c (station w .held) },

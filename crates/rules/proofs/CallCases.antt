@@ -9,18 +9,21 @@ use native.Mathlib.Omega.{arith}
 use lib.Dec.{ltb, leb, eqb}
 use lib.ListN.{getD}
 use borrow.Author.Tests.{leb-true, le-leb, lt-leb, lt-ltb, le-ltb}
+use Rattle.network.specs.Limits.{pathWords, workWords}
 use Rattle.network.specs.declared.Request.{Request}
+use Rattle.network.specs.Ranges.{inRange}
+use Rattle.area.specs.Layout.{leastNumber, mostCircuits, mostNumber}
 use Rattle.area.specs.Station.{nodesIn, tableIn, station}
 use Rattle.area.specs.Books.{books}
 use Rattle.area.specs.Held.{foundAt}
-use Rattle.area.specs.Formed.{inRange, wellFormed}
+use Rattle.area.specs.Formed.{wellFormed}
 use Rattle.area.specs.Refusals.{refuses}
 use Rattle.area.specs.Checks.{Check, firstFailing, unlessRefused, checked}
 use Rattle.area.proofs.Found.{holds-found, unheld-found}
 use Rattle.rules.proofs.Facts.{count-is}
 use Rattle.rules.specs.Requests.{requestFits}
 use Rattle.rules.specs.Replies.{PathReply, releases}
-use Rattle.rules.specs.Calls.{numberFits, numberChecks, quoteChecks, sought, quote, admission, release}
+use Rattle.rules.specs.Calls.{numberFits, numberChecks, quoteChecks, searched, quote, admission, release}
 use Rattle.rules.specs.Meaning.{booksIn}
 
 -- ---- the first check that fails decides, whatever follows
@@ -41,9 +44,9 @@ first-fails cs more a k e some = refused k some ∙ ap (unlessRefused refuses a)
         go false rest some = refl
 
 -- ---- the checks that a quote and an admission share
-module _ (w : List ℕ) (work room : ℕ) (r : Request) where
+module _ (w : List ℕ) (work path : ℕ) (r : Request) where
   abbrev first : ℕ
-  first = firstFailing (quoteChecks w work room r)
+  first = firstFailing (quoteChecks w work path r)
 
   pub first-5 : wellFormed w ≡ false → 5 ≡ first
   first-5 e = rw e refl
@@ -51,62 +54,62 @@ module _ (w : List ℕ) (work room : ℕ) (r : Request) where
   -- what a call that passes them may rely on
   pub record Passed : Type 0 where
     pub formed : wellFormed w ≡ true
-    pub memory : 16384 ≤ work
-    pub buffer : 31 ≤ room
+    pub memory : workWords ≤ work
+    pub buffer : pathWords ≤ path
     pub request : requestFits (nodesIn w) r ≡ true
 
   pub all-passed : 0 ≡ first → Passed
   unfolding books station tableIn
-  all-passed e = go (wellFormed w) refl (leb 16384 work) refl (leb 31 room) refl (requestFits (nodesIn w) r) refl e
+  all-passed e = go (wellFormed w) refl (leb workWords work) refl (leb pathWords path) refl (requestFits (nodesIn w) r) refl e
     where
-      go : (a : Bool) → wellFormed w ≡ a → (b : Bool) → leb 16384 work ≡ b → (c : Bool) → leb 31 room ≡ c
+      go : (a : Bool) → wellFormed w ≡ a → (b : Bool) → leb workWords work ≡ b → (c : Bool) → leb pathWords path ≡ c
           → (d : Bool) → requestFits (nodesIn w) r ≡ d
           → _≡_ {A = ℕ} 0 (cond a (cond b (cond c (cond d 0 8) 7) 6) 5)
           → Passed
-      go true p true q true s true t e = record { formed = p; memory = leb-true 16384 work q; buffer = leb-true 31 room s; request = t }
+      go true p true q true s true t e = record { formed = p; memory = leb-true workWords work q; buffer = leb-true pathWords path s; request = t }
       go true p true q true s false t e = absurd (omega (arith, e))
       go true p true q false s d t e = absurd (omega (arith, e))
       go true p false q c s d t e = absurd (omega (arith, e))
       go false p b q c s d t e = absurd (omega (arith, e))
 
   module _ (formed : wellFormed w ≡ true) where
-    pub first-6 : work < 16384 → 6 ≡ first
-    first-6 h = rw (formed, lt-leb 16384 work h) refl
+    pub first-6 : work < workWords → 6 ≡ first
+    first-6 h = rw (formed, lt-leb workWords work h) refl
 
-    module _ (memory : 16384 ≤ work) where
-      pub first-7 : room < 31 → 7 ≡ first
-      first-7 h = rw (formed, le-leb 16384 work memory, lt-leb 31 room h) refl
+    module _ (memory : workWords ≤ work) where
+      pub first-7 : path < pathWords → 7 ≡ first
+      first-7 h = rw (formed, le-leb workWords work memory, lt-leb pathWords path h) refl
 
-      module _ (buffer : 31 ≤ room) where
+      module _ (buffer : pathWords ≤ path) where
         pub first-8 : requestFits (nodesIn w) r ≡ false → 8 ≡ first
         unfolding books station tableIn
-        first-8 e = rw (formed, le-leb 16384 work memory, le-leb 31 room buffer, e) refl
+        first-8 e = rw (formed, le-leb workWords work memory, le-leb pathWords path buffer, e) refl
 
         pub first-none : requestFits (nodesIn w) r ≡ true → 0 ≡ first
         unfolding books station tableIn
-        first-none e = rw (formed, le-leb 16384 work memory, le-leb 31 room buffer, e) refl
+        first-none e = rw (formed, le-leb workWords work memory, le-leb pathWords path buffer, e) refl
 
   -- past them the rest decides
-  pub rest-left : Passed → (more : List Check) (a : PathReply) → checked refuses more a ≡ checked refuses (quoteChecks w work room r ++ more) a
+  pub rest-left : Passed → (more : List Check) (a : PathReply) → checked refuses more a ≡ checked refuses (quoteChecks w work path r ++ more) a
   unfolding books station tableIn
-  rest-left p more a = rw (p .formed, le-leb 16384 work (p .memory), le-leb 31 room (p .buffer), p .request) refl
+  rest-left p more a = rw (p .formed, le-leb workWords work (p .memory), le-leb pathWords path (p .buffer), p .request) refl
 
 -- the two calls are these checks, with nothing after them and with an admission's own
-pub quote-is : (w : List ℕ) (work room : ℕ) (r : Request) → checked refuses (quoteChecks w work room r ++ []) (sought (booksIn w) r) ≡ quote w work room r
+pub quote-is : (w : List ℕ) (work path : ℕ) (r : Request) → checked refuses (quoteChecks w work path r ++ []) (searched (booksIn w) r) ≡ quote w work path r
 unfolding quote
-quote-is w work room r = refl
+quote-is w work path r = refl
 
-pub quote-refused : (w : List ℕ) (work room : ℕ) (r : Request) (k : ℕ) → k ≡ firstFailing (quoteChecks w work room r) → (k ≡ 0 → ⊥)
-    → refuses k ≡ quote w work room r
-quote-refused w work room r k e some = first-fails (quoteChecks w work room r) [] (sought (booksIn w) r) k e some ∙ quote-is w work room r
+pub quote-refused : (w : List ℕ) (work path : ℕ) (r : Request) (k : ℕ) → k ≡ firstFailing (quoteChecks w work path r) → (k ≡ 0 → ⊥)
+    → refuses k ≡ quote w work path r
+quote-refused w work path r k e some = first-fails (quoteChecks w work path r) [] (searched (booksIn w) r) k e some ∙ quote-is w work path r
 
-pub quote-passed : (w : List ℕ) (work room : ℕ) (r : Request) → Passed w work room r → sought (booksIn w) r ≡ quote w work room r
-quote-passed w work room r p = rest-left w work room r p [] (sought (booksIn w) r) ∙ quote-is w work room r
+pub quote-passed : (w : List ℕ) (work path : ℕ) (r : Request) → Passed w work path r → searched (booksIn w) r ≡ quote w work path r
+quote-passed w work path r p = rest-left w work path r p [] (searched (booksIn w) r) ∙ quote-is w work path r
 
-pub admission-is : (w : List ℕ) (work room c : ℕ) (r : Request)
-    → checked refuses (quoteChecks w work room r ++ numberChecks (booksIn w) c) (sought (booksIn w) r) ≡ admission w work room c r
+pub admission-is : (w : List ℕ) (work path c : ℕ) (r : Request)
+    → checked refuses (quoteChecks w work path r ++ numberChecks (booksIn w) c) (searched (booksIn w) r) ≡ admission w work path c r
 unfolding admission
-admission-is w work room c r = refl
+admission-is w work path c r = refl
 
 -- ---- what an admission asks besides
 module _ (w : List ℕ) where
@@ -115,32 +118,32 @@ module _ (w : List ℕ) where
   unfolding books station
   held-is c = holds-found w (getD w 2 0) c
 
-  pub number-out : (c : ℕ) → inRange 1 65535 c ≡ false → false ≡ numberFits (booksIn w) c
+  pub number-out : (c : ℕ) → inRange leastNumber mostNumber c ≡ false → false ≡ numberFits (booksIn w) c
   unfolding numberFits
   number-out c e = rw e refl
 
   -- in its range: it is up to whether the search for it comes to the end
-  pub number-left : (c : ℕ) → inRange 1 65535 c ≡ true → eqb (foundAt w (getD w 2 0) c) (getD w 2 0) ≡ numberFits (booksIn w) c
+  pub number-left : (c : ℕ) → inRange leastNumber mostNumber c ≡ true → eqb (foundAt w (getD w 2 0) c) (getD w 2 0) ≡ numberFits (booksIn w) c
   unfolding numberFits books station
   number-left c e = unheld-found w (getD w 2 0) c ∙ rw e refl
 
-  pub admission-refused : (work room c : ℕ) (r : Request) (k : ℕ) → k ≡ firstFailing (quoteChecks w work room r) → (k ≡ 0 → ⊥)
-      → refuses k ≡ admission w work room c r
-  admission-refused work room c r k e some =
-      first-fails (quoteChecks w work room r) (numberChecks (booksIn w) c) (sought (booksIn w) r) k e some ∙ admission-is w work room c r
+  pub admission-refused : (work path c : ℕ) (r : Request) (k : ℕ) → k ≡ firstFailing (quoteChecks w work path r) → (k ≡ 0 → ⊥)
+      → refuses k ≡ admission w work path c r
+  admission-refused work path c r k e some =
+      first-fails (quoteChecks w work path r) (numberChecks (booksIn w) c) (searched (booksIn w) r) k e some ∙ admission-is w work path c r
 
-  module _ (work room c : ℕ) (r : Request) (p : Passed w work room r) where
-    own-left : checked refuses (numberChecks (booksIn w) c) (sought (booksIn w) r) ≡ admission w work room c r
-    own-left = rest-left w work room r p (numberChecks (booksIn w) c) (sought (booksIn w) r) ∙ admission-is w work room c r
+  module _ (work path c : ℕ) (r : Request) (p : Passed w work path r) where
+    own-left : checked refuses (numberChecks (booksIn w) c) (searched (booksIn w) r) ≡ admission w work path c r
+    own-left = rest-left w work path r p (numberChecks (booksIn w) c) (searched (booksIn w) r) ∙ admission-is w work path c r
 
-    pub fails-11 : numberFits (booksIn w) c ≡ false → refuses 11 ≡ admission w work room c r
+    pub fails-11 : numberFits (booksIn w) c ≡ false → refuses 11 ≡ admission w work path c r
     fails-11 e = rw (← own-left, e) refl
 
-    pub fails-12 : numberFits (booksIn w) c ≡ true → 64 ≤ getD w 2 0 → refuses 12 ≡ admission w work room c r
-    fails-12 e high = rw (← own-left, e, count-is w, le-ltb (getD w 2 0) 64 high) refl
+    pub fails-12 : numberFits (booksIn w) c ≡ true → mostCircuits ≤ getD w 2 0 → refuses 12 ≡ admission w work path c r
+    fails-12 e high = rw (← own-left, e, count-is w, le-ltb (getD w 2 0) mostCircuits high) refl
 
-    pub searches : numberFits (booksIn w) c ≡ true → getD w 2 0 < 64 → sought (booksIn w) r ≡ admission w work room c r
-    searches e low = rw (← own-left, e, count-is w, lt-ltb (getD w 2 0) 64 low) refl
+    pub searches : numberFits (booksIn w) c ≡ true → getD w 2 0 < mostCircuits → searched (booksIn w) r ≡ admission w work path c r
+    searches e low = rw (← own-left, e, count-is w, lt-ltb (getD w 2 0) mostCircuits low) refl
 
   -- ---- release
   pub release-unfit : (c : ℕ) → wellFormed w ≡ false → refuses 5 ≡ release w c

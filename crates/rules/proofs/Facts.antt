@@ -12,6 +12,7 @@ use borrow.Author.Tests.{eqb-true}
 use Rattle.network.proofs.Tests.{zero-one}
 use Rattle.network.specs.Lists.{All}
 use Rattle.network.specs.Net.{Net, Walk, IsPath}
+use Rattle.area.specs.Layout.{leastNumber, mostNumber}
 use Rattle.area.specs.Refusals.{refuses, grants}
 use Rattle.area.specs.Station.{Table, Circuit, headOf, station}
 use Rattle.area.specs.Books.{Books, holds, books, net, whole}
@@ -47,10 +48,10 @@ unfolding books station
 count-is w = held-length w (getD w 2 0)
 
 -- a held number is in its range
-pub held-number : (t : Table) (l : List Circuit) (k : ℕ) → All (CircuitFits t) l → holds l k ≡ true → (1 ≤ k) × (k ≤ 65535)
+pub held-number : (t : Table) (l : List Circuit) (k : ℕ) → All (CircuitFits t) l → holds l k ≡ true → (leastNumber ≤ k) × (k ≤ mostNumber)
 held-number t [] k h e = absurd (false≢true e)
 held-number t (c ∷ l) k h e = go (eqb k (c .number)) refl e (held-number t l k (h .1))
   where
-    go : (b : Bool) → eqb k (c .number) ≡ b → (b || holds l k) ≡ true → (holds l k ≡ true → (1 ≤ k) × (k ≤ 65535)) → (1 ≤ k) × (k ≤ 65535)
+    go : (b : Bool) → eqb k (c .number) ≡ b → (b || holds l k) ≡ true → (holds l k ≡ true → (leastNumber ≤ k) × (k ≤ mostNumber)) → (leastNumber ≤ k) × (k ≤ mostNumber)
     go true q e on = rw (eqb-true k (c .number) q) (h .0 .number-least, h .0 .number-most)
     go false q e on = on e

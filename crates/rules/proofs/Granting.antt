@@ -10,6 +10,7 @@ use native.Mathlib.Nat.{zero-add}
 use types.Run.{OneOf}
 use native.Mathlib.Omega.{arith}
 use lib.ListN.{length, drop, List·getD-append}
+use Rattle.network.specs.Limits.{mostPathLinks}
 use Rattle.network.proofs.Tests.{zero-one}
 use Rattle.network.specs.Net.{Net}
 use Rattle.network.specs.Reduce.{Outcome, no-path, no-solution, granted}
@@ -26,26 +27,26 @@ use Rattle.area.specs.Refusals.{refuses, grants, Answered}
 use Rattle.rules.specs.declared.RequestAnswer.{RequestAnswer}
 use Rattle.rules.specs.declared.RequestAnswer.the-variants.{Refused, Granted}
 use Rattle.rules.specs.declared.ReleaseAnswer.{ReleaseAnswer}
-use Rattle.rules.specs.Replies.{PathReply, answerOf, pathAfter, told, replyOf, ReleaseReply, releaseAnswerOf}
+use Rattle.rules.specs.Replies.{PathReply, answerOf, pathAfter, numbered, replyOf, ReleaseReply, releaseAnswerOf}
 use Rattle.rules.specs.Requests.{RequestFits, requestFits}
-use Rattle.rules.specs.Calls.{sought, quote, admission, booked, release, cleared}
+use Rattle.rules.specs.Calls.{searched, quote, admission, booked, release, cleared}
 use Rattle.rules.specs.Allowed.{Grant as Means, searchRules}
 use Rattle.rules.specs.Meaning.{booksIn, netFor, AreaBooked, AreaCleared, QuoteMeans, AdmissionMeans, ReleaseMeans}
-use Rattle.rules.proofs.Meaning.{request-says, sought-means, quote-means, admission-means, release-means}
+use Rattle.rules.proofs.Meaning.{request-says, searched-means, quote-means, admission-means, release-means}
 use Rattle.rules.proofs.Bookings.{grant-path, seen-short, admitted-area, released-area}
 
 -- the search's answer, numbered, is the reply's
-pub told-reply : (g : Net) (o : Outcome) → told (result.answerOf g o) ≡ answerOf (replyOf g o)
-unfolding told answerOf replyOf result.answerOf
-told-reply g no-path = refl
-told-reply g no-solution = refl
-told-reply g (granted k p) = refl
+pub numbered-reply : (g : Net) (o : Outcome) → numbered (result.searchAnswerOf g o) ≡ answerOf (replyOf g o)
+unfolding numbered answerOf replyOf result.searchAnswerOf
+numbered-reply g no-path = refl
+numbered-reply g no-solution = refl
+numbered-reply g (granted which p) = refl
 
 pub path-reply : (g : Net) (o : Outcome) (l : List ℕ) → result.pathAfter o l ≡ pathAfter (replyOf g o) l
 unfolding pathAfter replyOf result.pathAfter
 path-reply g no-path l = refl
 path-reply g no-solution l = refl
-path-reply g (granted k p) l = refl
+path-reply g (granted which p) l = refl
 
 -- the stored circuit is the reply's, read back from the path buffer
 module _ (w : List ℕ) (c u : ℕ) (g : Grant) (l : List ℕ) where
@@ -60,12 +61,12 @@ module _ (w : List ℕ) (c u : ℕ) (g : Grant) (l : List ℕ) where
       rw (many, path) refl
 
   -- the same, with the buffer, the count and the part as the code holds them
-  pub stored-as : (a : PathReply) → answerOf a ≡ Granted g → (buffer : List ℕ) → buffer ≡ pathAfter a l → (k : ℕ) → k ≡ g .links
-      → (p : List ℕ) → p ≡ wordsAt buffer 0 k
+  pub stored-as : (a : PathReply) → answerOf a ≡ Granted g → (buffer : List ℕ) → buffer ≡ pathAfter a l → (count : ℕ) → count ≡ g .links
+      → (p : List ℕ) → p ≡ wordsAt buffer 0 count
       → added w (record { number = c; units = u; path = p }) ≡ booked w c u a
-  stored-as a e buffer holds k is p part =
+  stored-as a e buffer holds count is p part =
       ap (λ (q : List ℕ). added w (record { number = c; units = u; path = q }))
-      (part ∙ ap (λ (b : List ℕ). wordsAt b 0 k) holds ∙ ap (wordsAt (pathAfter a l) 0) is)
+      (part ∙ ap (λ (b : List ℕ). wordsAt b 0 count) holds ∙ ap (wordsAt (pathAfter a l) 0) is)
       ∙ stored a e
 
 -- an answer of another case than `Granted` stores nothing
@@ -79,12 +80,12 @@ pub other-case : (tag : RequestAnswer → ℕ) → ((g : Grant) → tag (Granted
     → (g : Grant) → a ≡ Granted g → ⊥
 other-case tag one a keys g e = omega (arith, keys, ap tag e, one g)
 
--- a granted path has at most 31 links
+-- a granted path has no more links than a path may
 pub granted-short : (w : List ℕ) (r : Request) → wellFormed w ≡ true → requestFits (nodesIn w) r ≡ true
-    → (g : Grant) → answerOf (sought (booksIn w) r) ≡ Granted g
-    → g .links ≤ 31
+    → (g : Grant) → answerOf (searched (booksIn w) r) ≡ Granted g
+    → g .links ≤ mostPathLinks
 unfolding books station tableIn answerOf
-granted-short w r formed request g = go (sought (booksIn w) r) (sought-means w r whole fits)
+granted-short w r formed request g = go (searched (booksIn w) r) (searched-means w r whole fits)
   where
     whole : WellFormed w
     whole = formed-says w formed
@@ -92,7 +93,7 @@ granted-short w r formed request g = go (sought (booksIn w) r) (sought-means w r
     fits : RequestFits (nodesIn w) r
     fits = request-says (nodesIn w) r request
 
-    go : (a : PathReply) → Answered (Means (netFor w r) r) (searchRules (netFor w r) r) a → answerOf a ≡ Granted g → g .links ≤ 31
+    go : (a : PathReply) → Answered (Means (netFor w r) r) (searchRules (netFor w r) r) a → answerOf a ≡ Granted g → g .links ≤ mostPathLinks
     go (refuses n) h e = absurd (zero-one cc)
     go (grants b) h e =
         let many : g .links ≡ length (b .path) = cc in
@@ -100,17 +101,17 @@ granted-short w r formed request g = go (sought (booksIn w) r) (sought-means w r
 
 -- ---- a quote's return: the answer, the path buffer after and the meaning, by the reply that the code came to
 module _ (w : List ℕ) (work : ℕ) (l : List ℕ) (r : Request) where
-  -- what the contract says of an answer x and a buffer l'
+  -- what the contract says of an answer `said` and a buffer l'
   abbrev pub QuotedAs : RequestAnswer → List ℕ → Type 0
-  QuotedAs x l' =
+  QuotedAs said l' =
       let a = quote w work (length l) r in
-      (x ≡ answerOf a) × ((l' ≡ pathAfter a l) × QuoteMeans w work l r x l')
+      (said ≡ answerOf a) × ((l' ≡ pathAfter a l) × QuoteMeans w work l r said l')
 
   -- it holds by any reply that is the quote's
-  pub quoted-as : (a : PathReply) → a ≡ quote w work (length l) r → (x : RequestAnswer) → x ≡ answerOf a
+  pub quoted-as : (a : PathReply) → a ≡ quote w work (length l) r → (said : RequestAnswer) → said ≡ answerOf a
       → (l' : List ℕ) → l' ≡ pathAfter a l
-      → QuotedAs x l'
-  quoted-as a is x answers l' holds =
+      → QuotedAs said l'
+  quoted-as a is said answers l' holds =
       let answers' = answers ∙ ap answerOf is in
       let holds' = holds ∙ ap (λ (b : PathReply). pathAfter b l) is in
       (answers', (holds', record { reply = quote w work (length l) r; allowed = quote-means w work (length l) r; answer = answers'; path = holds' }))
@@ -122,18 +123,18 @@ module _ (w : List ℕ) (work : ℕ) (l : List ℕ) (r : Request) where
 
 -- ---- an admission's return: the area after as well
 module _ (w : List ℕ) (work : ℕ) (l : List ℕ) (c : ℕ) (r : Request) where
-  -- what the contract says of an answer x, a buffer l' and an area w'
+  -- what the contract says of an answer `said`, a buffer l' and an area w'
   abbrev pub AdmittedAs : RequestAnswer → List ℕ → List ℕ → Type 0
-  AdmittedAs x l' w' =
+  AdmittedAs said l' w' =
       let a = admission w work (length l) c r in
-      (x ≡ answerOf a) × ((l' ≡ pathAfter a l) × ((w' ≡ booked w c (r .units) a) × AdmissionMeans w work l c r x l' w'))
+      (said ≡ answerOf a) × ((l' ≡ pathAfter a l) × ((w' ≡ booked w c (r .units) a) × AdmissionMeans w work l c r said l' w'))
 
   -- it holds by any reply that is the admission's
-  pub admitted-as : (a : PathReply) → a ≡ admission w work (length l) c r → (x : RequestAnswer) → x ≡ answerOf a
+  pub admitted-as : (a : PathReply) → a ≡ admission w work (length l) c r → (said : RequestAnswer) → said ≡ answerOf a
       → (l' : List ℕ) → l' ≡ pathAfter a l
       → (w' : List ℕ) → w' ≡ booked w c (r .units) a
-      → AdmittedAs x l' w'
-  admitted-as a is x answers l' holds w' stored =
+      → AdmittedAs said l' w'
+  admitted-as a is said answers l' holds w' stored =
       let b = admission w work (length l) c r in
       let answers' = answers ∙ ap answerOf is in
       let holds' = holds ∙ ap (λ (b : PathReply). pathAfter b l) is in
@@ -162,14 +163,14 @@ module _ (w : List ℕ) (work : ℕ) (l : List ℕ) (c : ℕ) (r : Request) wher
 -- ---- a release's return: the answer, the area after and the meaning
 module _ (w : List ℕ) (c : ℕ) where
   abbrev pub ClearedAs : ReleaseAnswer → List ℕ → Type 0
-  ClearedAs x w' =
+  ClearedAs said w' =
       let a = release w c in
-      (x ≡ releaseAnswerOf a) × ((w' ≡ cleared w c a) × ReleaseMeans w c x w')
+      (said ≡ releaseAnswerOf a) × ((w' ≡ cleared w c a) × ReleaseMeans w c said w')
 
-  pub cleared-as : (a : ReleaseReply) → a ≡ release w c → (x : ReleaseAnswer) → x ≡ releaseAnswerOf a
+  pub cleared-as : (a : ReleaseReply) → a ≡ release w c → (said : ReleaseAnswer) → said ≡ releaseAnswerOf a
       → (w' : List ℕ) → w' ≡ cleared w c a
-      → ClearedAs x w'
-  cleared-as a is x answers w' stored =
+      → ClearedAs said w'
+  cleared-as a is said answers w' stored =
       let answers' = answers ∙ ap releaseAnswerOf is in
       let stored' = stored ∙ ap (cleared w c) is in (
         answers',

@@ -5,4 +5,4 @@ pub mod Depends
 pub mod CallCases
 pub mod Granting
 pub mod RequestCases
-pub mod Seeking
+pub mod Searching

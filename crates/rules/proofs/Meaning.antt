@@ -9,21 +9,25 @@ use mathlib.Core.Logic.{_⊎_, inl, inr}
 use native.Mathlib.Omega.{arith}
 use lib.Dec.{ltb, leb, eqb}
 use borrow.Author.Tests.{ltb-true, lt-ltb, eqb-false, ne-eqb, not-true}
+use Rattle.network.specs.Limits.{pathWords, workWords}
 use Rattle.network.specs.Net.{Net}
-use Rattle.network.specs.Reduce.{delayBound, costBound, Outcome, no-path, no-solution, granted}
+use Rattle.network.specs.Reduce.{Outcome, no-path, no-solution, granted}
 use Rattle.network.specs.declared.Request.{Request}
-use Rattle.network.proofs.Tests.{fst-of, snd-of, unfailing, zero-one}
+use Rattle.network.proofs.Tests.{fst-of, snd-of, unfailing, zero-one, both}
+use Rattle.network.specs.Ranges.{inRange}
+use Rattle.network.proofs.Ranges.{range-says, range-test, terms-says, terms-test}
 use Rattle.search.specs.Result.{Searchable, outcome, GrantedByOne, GrantedByTwo, Result}
 use Rattle.search.proofs.Result.{outcome-found}
+use Rattle.area.specs.Layout.{leastNumber, mostCircuits, mostNumber}
 use Rattle.area.specs.Books.{Books, books, net}
-use Rattle.area.specs.Formed.{WellFormed, inRange, wellFormed}
+use Rattle.area.specs.Formed.{WellFormed, wellFormed}
 use Rattle.area.specs.Refusals.{_when_, Answered}
 use Rattle.area.specs.Checks.{_unless_}
 use Rattle.area.proofs.Checks.{Tests, tests-not, tests-short, tests-full, tests-false, checked-answers}
-use Rattle.area.proofs.Formed.{both, range-says, range-test, formed-says, formed-test}
+use Rattle.area.proofs.Formed.{formed-says, formed-test}
 use Rattle.rules.specs.Requests.{RequestFits, requestFits}
 use Rattle.rules.specs.Replies.{replyOf, releases}
-use Rattle.rules.specs.Calls.{sought, numberFits, quoteChecks, admitChecks, releaseChecks, quote, admission, release}
+use Rattle.rules.specs.Calls.{searched, numberFits, quoteChecks, admitChecks, releaseChecks, quote, admission, release}
 use Rattle.rules.specs.Allowed.{Grant, searchRules, NumberFits, numberRules, releaseRules}
 use Rattle.rules.specs.Meaning.{booksIn, quoteRules, netFor, Quoted, Admitted, Cleared}
 
@@ -34,25 +38,11 @@ module _ (n : ℕ) (r : Request) where
   request-says e =
       let e1 = snd-of (ltb (r .source) n) _ e in
       let e2 = snd-of (ltb (r .target) n) _ e1 in
-      let e3 = snd-of (not (eqb (r .source) (r .target))) _ e2 in
-      let e4 = snd-of (inRange 1 65535 (r .units)) _ e3 in
-      let e5 = snd-of (inRange 1 31000000 (delayBound r)) _ e4 in
-      let units = range-says 1 65535 (r .units) (fst-of (inRange 1 65535 (r .units)) _ e3) in
-      let delay = range-says 1 31000000 (delayBound r) (fst-of (inRange 1 31000000 (delayBound r)) _ e4) in
-      let cost = range-says 1 31000000 (costBound r) (fst-of (inRange 1 31000000 (costBound r)) _ e5) in
-      let coefficient = range-says 1 8 (r .coefficient) (snd-of (inRange 1 31000000 (costBound r)) _ e5) in
       record {
         source = ltb-true (r .source) n (fst-of (ltb (r .source) n) _ e);
         target = ltb-true (r .target) n (fst-of (ltb (r .target) n) _ e1);
         apart = eqb-false (r .source) (r .target) (not-true _ (fst-of (not (eqb (r .source) (r .target))) _ e2));
-        units-least = units .0;
-        units-most = units .1;
-        delay-least = delay .0;
-        delay-most = delay .1;
-        cost-least = cost .0;
-        cost-most = cost .1;
-        coefficient-least = coefficient .0;
-        coefficient-most = coefficient .1;
+        terms = terms-says _ _ _ _ (snd-of (not (eqb (r .source) (r .target))) _ e2);
       }
 
   pub request-test : RequestFits n r → requestFits n r ≡ true
@@ -60,22 +50,18 @@ module _ (n : ℕ) (r : Request) where
   request-test h =
       both (ltb (r .source) n) _ (lt-ltb (r .source) n (h .source))
       (both (ltb (r .target) n) _ (lt-ltb (r .target) n (h .target))
-      (both (not (eqb (r .source) (r .target))) _ (rw (ne-eqb (r .source) (r .target) (h .apart)))
-      (both (inRange 1 65535 (r .units)) _ (range-test 1 65535 (r .units) (h .units-least) (h .units-most))
-      (both (inRange 1 31000000 (delayBound r)) _ (range-test 1 31000000 (delayBound r) (h .delay-least) (h .delay-most))
-      (both (inRange 1 31000000 (costBound r)) _ (range-test 1 31000000 (costBound r) (h .cost-least) (h .cost-most))
-      (range-test 1 8 (r .coefficient) (h .coefficient-least) (h .coefficient-most)))))))
+      (both (not (eqb (r .source) (r .target))) _ (rw (ne-eqb (r .source) (r .target) (h .apart))) (terms-test _ _ _ _ (h .terms))))
 
 module _ (o : Books) (c : ℕ) where
   pub number-says : numberFits o c ≡ true → NumberFits o c
   unfolding numberFits
   number-says e =
-      let range = range-says 1 65535 c (fst-of (inRange 1 65535 c) _ e) in
-      record { least = range .0; most = range .1; new = not-true (o .holds c) (snd-of (inRange 1 65535 c) _ e) }
+      let range = range-says leastNumber mostNumber c (fst-of (inRange leastNumber mostNumber c) _ e) in
+      record { least = range .0; most = range .1; new = not-true (o .holds c) (snd-of (inRange leastNumber mostNumber c) _ e) }
 
   pub number-test : NumberFits o c → numberFits o c ≡ true
   unfolding numberFits
-  number-test h = both (inRange 1 65535 c) _ (range-test 1 65535 c (h .least) (h .most)) (rw (h .new))
+  number-test h = both (inRange leastNumber mostNumber c) _ (range-test leastNumber mostNumber c (h .least) (h .most)) (rw (h .new))
 
 -- ---- the search
 -- a well-formed area and a request that fits may be searched
@@ -91,9 +77,9 @@ area-searchable w r formed fits =
       source = fits .source;
       target = fits .target;
       apart = fits .apart;
-      delay-some = fits .delay-least;
-      cost-some = fits .cost-least;
-      coefficient-some = fits .coefficient-least;
+      delay-some = fits .terms .delay-least;
+      cost-some = fits .terms .cost-least;
+      coefficient-some = fits .terms .coefficient-least;
     }
 
 module _ (g : Net) (r : Request) where
@@ -123,10 +109,10 @@ module _ (g : Net) (r : Request) where
       unsolved e = zero-one cc
 
 -- past the checks: 9, 10 or a grant
-pub sought-means : (w : List ℕ) (r : Request) → WellFormed w → RequestFits (booksIn w .table .nodes) r
-    → Answered (Grant (netFor w r) r) (searchRules (netFor w r) r) (sought (booksIn w) r)
-unfolding sought
-sought-means w r formed fits =
+pub searched-means : (w : List ℕ) (r : Request) → WellFormed w → RequestFits (booksIn w .table .nodes) r
+    → Answered (Grant (netFor w r) r) (searchRules (netFor w r) r) (searched (booksIn w) r)
+unfolding searched
+searched-means w r formed fits =
     replied (netFor w r) r (outcome (netFor w r) r) (outcome-found (netFor w r) r (area-searchable w r formed fits))
 
 -- ---- the calls
@@ -146,38 +132,38 @@ module _ (w : List ℕ) where
   area-tested = tests-not 5 (omega arith) (wellFormed w) (formed-says w) (formed-test w)
 
   -- each check of a request tests its rule
-  module _ (work room : ℕ) (r : Request) where
-    memory-tested : Tests (6 unless leb 16384 work) (6 when work < 16384)
-    memory-tested = tests-short 6 (omega arith) 16384 work
+  module _ (work path : ℕ) (r : Request) where
+    memory-tested : Tests (6 unless leb workWords work) (6 when work < workWords)
+    memory-tested = tests-short 6 (omega arith) workWords work
 
-    buffer-tested : Tests (7 unless leb 31 room) (7 when room < 31)
-    buffer-tested = tests-short 7 (omega arith) 31 room
+    buffer-tested : Tests (7 unless leb pathWords path) (7 when path < pathWords)
+    buffer-tested = tests-short 7 (omega arith) pathWords path
 
     request-tested : Tests (8 unless requestFits (booksIn w .table .nodes) r) (8 when (RequestFits (booksIn w .table .nodes) r → ⊥))
     request-tested = tests-not 8 (omega arith) (requestFits (booksIn w .table .nodes) r) (request-says _ r) (request-test _ r)
 
     -- past them the search may be asked
-    sought-past : ((WellFormed w → ⊥) → ⊥) → ((RequestFits (booksIn w .table .nodes) r → ⊥) → ⊥)
-        → Answered (Grant (netFor w r) r) (searchRules (netFor w r) r) (sought (booksIn w) r)
-    sought-past formed fits = sought-means w r (formed-past w formed) (request-past _ r fits)
+    searched-past : ((WellFormed w → ⊥) → ⊥) → ((RequestFits (booksIn w .table .nodes) r → ⊥) → ⊥)
+        → Answered (Grant (netFor w r) r) (searchRules (netFor w r) r) (searched (booksIn w) r)
+    searched-past formed fits = searched-means w r (formed-past w formed) (request-past _ r fits)
 
     -- every reply of a quote is the one that the rules give
-    pub quote-means : Quoted w work room r (quote w work room r)
+    pub quote-means : Quoted w work path r (quote w work path r)
     unfolding quote
     quote-means =
-        checked-answers (Grant (netFor w r) r) (quoteChecks w work room r) (quoteRules w work room r)
-        (area-tested, (memory-tested, (buffer-tested, (request-tested, tt)))) (searchRules (netFor w r) r) (sought (booksIn w) r)
-        (λ p. sought-past (p .0) (p .1 .1 .1 .0))
+        checked-answers (Grant (netFor w r) r) (quoteChecks w work path r) (quoteRules w work path r)
+        (area-tested, (memory-tested, (buffer-tested, (request-tested, tt)))) (searchRules (netFor w r) r) (searched (booksIn w) r)
+        (λ p. searched-past (p .0) (p .1 .1 .1 .0))
 
     -- every reply of an admission
-    pub admission-means : (c : ℕ) → Admitted w work room c r (admission w work room c r)
+    pub admission-means : (c : ℕ) → Admitted w work path c r (admission w work path c r)
     unfolding admission
     admission-means c =
-        checked-answers (Grant (netFor w r) r) (admitChecks w work room c r) (quoteRules w work room r ++ numberRules (booksIn w) c)
-        (area-tested, (memory-tested, (buffer-tested, (request-tested, (number-tested, (tests-full 12 (omega arith) (booksIn w .count) 64, tt))))))
+        checked-answers (Grant (netFor w r) r) (admitChecks w work path c r) (quoteRules w work path r ++ numberRules (booksIn w) c)
+        (area-tested, (memory-tested, (buffer-tested, (request-tested, (number-tested, (tests-full 12 (omega arith) (booksIn w .count) mostCircuits, tt))))))
         (searchRules (netFor w r) r)
-        (sought (booksIn w) r)
-        (λ p. sought-past (p .0) (p .1 .1 .1 .0))
+        (searched (booksIn w) r)
+        (λ p. searched-past (p .0) (p .1 .1 .1 .0))
       where
         number-tested : Tests (11 unless numberFits (booksIn w) c) (11 when (NumberFits (booksIn w) c → ⊥))
         number-tested = tests-not 11 (omega arith) (numberFits (booksIn w) c) (number-says (booksIn w) c) (number-test (booksIn w) c)

@@ -6,10 +6,12 @@ use mathlib.Core.Path.{_≡_}
 use mathlib.Core.Bool.{false}
 use mathlib.Core.List.{List, [], _∷_}
 use mathlib.Core.Logic.{_⊎_}
+use Rattle.network.specs.Limits.{pathWords, workWords}
 use Rattle.network.specs.Net.{Net, sum}
 use Rattle.network.specs.Problem.{NoPath}
 use Rattle.network.specs.declared.Request.{Request}
 use Rattle.search.specs.Result.{Unsolved, GrantedByOne, GrantedByTwo}
+use Rattle.area.specs.Layout.{leastNumber, mostCircuits, mostNumber}
 use Rattle.area.specs.Books.{Books}
 use Rattle.area.specs.Refusals.{Rule, _when_}
 use Rattle.rules.specs.Requests.{RequestFits}
@@ -29,18 +31,18 @@ module _ (g : Net) (r : Request) where
 
 -- a circuit number that an admission takes: in its range and not held
 pub record NumberFits (o : Books) (c : ℕ) : Type 0 where
-  pub least : 1 ≤ c
-  pub most : c ≤ 65535
+  pub least : leastNumber ≤ c
+  pub most : c ≤ mostNumber
   pub new : o .holds c ≡ false
 
 -- the rules that ask for the books alone: those of a request, with the lengths of work memory and path buffer
 abbrev pub requestRules : Books → ℕ → ℕ → Request → List Rule
-requestRules o work room r =
-    (6 when work < 16384) ∷ (7 when room < 31) ∷ (8 when (RequestFits (o .table .nodes) r → ⊥)) ∷ []
+requestRules o work path r =
+    (6 when work < workWords) ∷ (7 when path < pathWords) ∷ (8 when (RequestFits (o .table .nodes) r → ⊥)) ∷ []
 
 -- and those of a circuit number
 abbrev pub numberRules : Books → ℕ → List Rule
-numberRules o c = (11 when (NumberFits o c → ⊥)) ∷ (12 when 64 ≤ o .count) ∷ []
+numberRules o c = (11 when (NumberFits o c → ⊥)) ∷ (12 when mostCircuits ≤ o .count) ∷ []
 
 -- and that of a release
 abbrev pub releaseRules : Books → ℕ → List Rule

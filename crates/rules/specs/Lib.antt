@@ -6,4 +6,4 @@ pub mod Allowed
 pub mod Meaning
 pub mod Calls
 pub mod Classes
-pub mod Ready
+pub mod SearchableArea

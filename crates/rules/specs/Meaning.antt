@@ -25,7 +25,7 @@ booksIn w = books (station w)
 -- ---- which replies the rules allow
 -- the rules of an area before the search
 abbrev pub quoteRules : List ℕ → ℕ → ℕ → Request → List Rule
-quoteRules w work room r = (5 when (WellFormed w → ⊥)) ∷ requestRules (booksIn w) work room r
+quoteRules w work path r = (5 when (WellFormed w → ⊥)) ∷ requestRules (booksIn w) work path r
 
 -- the network that a request sees on an area
 abbrev pub netFor : List ℕ → Request → Net
@@ -33,12 +33,12 @@ netFor w r = net (booksIn w) (r .units)
 
 -- a quote's reply
 abbrev pub Quoted : List ℕ → ℕ → ℕ → Request → PathReply → Type 0
-Quoted w work room r a = Answered (Grant (netFor w r) r) (quoteRules w work room r ++ searchRules (netFor w r) r) a
+Quoted w work path r a = Answered (Grant (netFor w r) r) (quoteRules w work path r ++ searchRules (netFor w r) r) a
 
 -- an admission's reply
 abbrev pub Admitted : List ℕ → ℕ → ℕ → ℕ → Request → PathReply → Type 0
-Admitted w work room c r a =
-    Answered (Grant (netFor w r) r) (quoteRules w work room r ++ numberRules (booksIn w) c ++ searchRules (netFor w r) r) a
+Admitted w work path c r a =
+    Answered (Grant (netFor w r) r) (quoteRules w work path r ++ numberRules (booksIn w) c ++ searchRules (netFor w r) r) a
 
 -- a release's reply
 abbrev pub Cleared : List ℕ → ℕ → ReleaseReply → Type 0
@@ -67,23 +67,23 @@ AreaCleared w c (refuses k) w' = w' ≡ w
 AreaCleared w c (grants _) w' = Rebooked w w' (without c (station w .held))
 
 -- ---- what an answer means
--- A call on the words w, with `work` words of work memory, the path buffer l and a request r, answered x, and left l' in the
+-- A call on the words w, with `work` words of work memory, the path buffer l and a request r, answered `said`, and left l' in the
 -- path buffer and w' in the area: there is a reply that the rules allow, and these are its answer and what it leaves.
-pub record QuoteMeans (w : List ℕ) (work : ℕ) (l : List ℕ) (r : Request) (x : RequestAnswer) (l' : List ℕ) : Type 0 where
+pub record QuoteMeans (w : List ℕ) (work : ℕ) (l : List ℕ) (r : Request) (said : RequestAnswer) (l' : List ℕ) : Type 0 where
   pub reply : PathReply
   pub allowed : Quoted w work (length l) r reply
-  pub answer : x ≡ answerOf reply
+  pub answer : said ≡ answerOf reply
   pub path : l' ≡ pathAfter reply l
 
-pub record AdmissionMeans (w : List ℕ) (work : ℕ) (l : List ℕ) (c : ℕ) (r : Request) (x : RequestAnswer) (l' w' : List ℕ) : Type 0 where
+pub record AdmissionMeans (w : List ℕ) (work : ℕ) (l : List ℕ) (c : ℕ) (r : Request) (said : RequestAnswer) (l' w' : List ℕ) : Type 0 where
   pub reply : PathReply
   pub allowed : Admitted w work (length l) c r reply
-  pub answer : x ≡ answerOf reply
+  pub answer : said ≡ answerOf reply
   pub path : l' ≡ pathAfter reply l
   pub area : AreaBooked w c (r .units) reply w'
 
-pub record ReleaseMeans (w : List ℕ) (c : ℕ) (x : ReleaseAnswer) (w' : List ℕ) : Type 0 where
+pub record ReleaseMeans (w : List ℕ) (c : ℕ) (said : ReleaseAnswer) (w' : List ℕ) : Type 0 where
   pub reply : ReleaseReply
   pub allowed : Cleared w c reply
-  pub answer : x ≡ releaseAnswerOf reply
+  pub answer : said ≡ releaseAnswerOf reply
   pub area : AreaCleared w c reply w'

@@ -5,8 +5,8 @@ use mathlib.Core.List.{List, [], _++_}
 use lib.ListN.{length, drop}
 use Rattle.network.specs.Net.{Net, sum}
 use Rattle.network.specs.Reduce.{Outcome, no-path, no-solution, granted}
-use Rattle.network.specs.declared.Answer.{Answer as Found}
-use Rattle.network.specs.declared.Answer.the-variants as found
+use Rattle.network.specs.declared.SearchAnswer.{SearchAnswer as Found}
+use Rattle.network.specs.declared.SearchAnswer.the-variants as found
 use Rattle.area.specs.Refusals.{Reply, refuses, grants}
 use Rattle.rules.specs.declared.RequestAnswer.{RequestAnswer}
 use Rattle.rules.specs.declared.RequestAnswer.the-variants.{Refused, Granted}
@@ -24,9 +24,9 @@ pub record PathGrant : Type 0 where
 abbrev pub PathReply : Type 0
 PathReply = Reply PathGrant
 
--- the reply that grants the path p by problem k, with delay d and cost x
+-- the reply that grants the path p by problem `which`, with delay d and cost c
 abbrev pub granting : ℕ → ℕ → ℕ → List ℕ → PathReply
-granting k d x p = grants (record { problem = k; delay = d; cost = x; path = p })
+granting which d c p = grants (record { problem = which; delay = d; cost = c; path = p })
 
 -- the code's answer for each reply: document 01's number, or the problem, delay, cost and number of links
 unfoldable pub answerOf : PathReply → RequestAnswer
@@ -46,10 +46,10 @@ pathAfter (grants g) l = g .path ++ drop (length (g .path)) l
 
 -- ---- what the search found
 -- document 01's number and values for each case of the search's answer
-unfoldable pub told : Found → RequestAnswer
-told found.NoPath = Refused 9
-told found.NoSolution = Refused 10
-told (found.Granted g) = Granted g
+unfoldable pub numbered : Found → RequestAnswer
+numbered found.NoPath = Refused 9
+numbered found.NoSolution = Refused 10
+numbered (found.Granted g) = Granted g
 
 -- the reply for what a search on a network found
 unfoldable pub replyOf : Net → Outcome → PathReply

@@ -8,6 +8,7 @@ use Prim.Native.Nat.{ℕ, zero, suc, _+_, _-_, _≤_, _<_}
 use native.Mathlib.Nat.{le-refl, add-zero}
 use native.Mathlib.Omega.{arith}
 use lib.ListN.{length, length-append}
+use Rattle.network.specs.Limits.{mostNodes}
 use Rattle.network.specs.Loops.{iter}
 use Rattle.network.specs.Net.{Net, Ends, Walk, IsPath, sum}
 use Rattle.network.specs.NodeSet.{member, inserted}
@@ -118,7 +119,7 @@ distance-least g s t p h =
     absurd (false≢true (sym absent ∙ layer-all g s (length p) t p (h .walk) (le-refl _))))
     (λ l. l)
 
-module _ (g : Net) (ends : Ends g) (few : g .nodes ≤ 32) (s t : ℕ) (s-low : s < g .nodes) (apart : s ≡ t → ⊥) where
+module _ (g : Net) (ends : Ends g) (few : g .nodes ≤ mostNodes) (s t : ℕ) (s-low : s < g .nodes) (apart : s ≡ t → ⊥) where
   pub distance-found : distance g s t < g .nodes → Distance g s t (distance g s t)
   unfolding distance
   distance-found low =

@@ -7,6 +7,7 @@ use mathlib.Core.List.{List}
 use mathlib.Core.Option.{Option, none, some}
 use Prim.Native.Nat.{ℕ, _*_, _≤_, _<_}
 use borrow.Author.Tests.{ltb-true, ltb-false}
+use Rattle.network.specs.Limits.{mostNodes}
 use Rattle.network.specs.declared.Request.{Request}
 use Rattle.network.specs.Net.{Net, Ends}
 use Rattle.network.specs.Problem.{Distance}
@@ -37,7 +38,7 @@ module _ (g : Net) (r : Request) where
   by-both k far none (some p) nothing best = Found.by-two k p far nothing best
   by-both k far none none nothing more = Found.unsolved k far nothing more
 
-  pub search-finds : Ends g → g .nodes ≤ 32 → r .source < g .nodes → r .target < g .nodes → (r .source ≡ r .target → ⊥) → Found g r (search g r)
+  pub search-finds : Ends g → g .nodes ≤ mostNodes → r .source < g .nodes → r .target < g .nodes → (r .source ≡ r .target → ⊥) → Found g r (search g r)
   unfolding search tried
   search-finds ends few s-low t-low apart =
       let k : ℕ = distance g (r .source) (r .target) in

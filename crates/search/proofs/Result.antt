@@ -95,7 +95,7 @@ ready-searchable n m links usable work path r h =
       source = h .source;
       target = h .target;
       apart = h .apart;
-      delay-some = h .delay-some;
-      cost-some = h .cost-some;
-      coefficient-some = h .coefficient-some;
+      delay-some = h .terms .delay-least;
+      cost-some = h .terms .cost-least;
+      coefficient-some = h .terms .coefficient-least;
     }

@@ -7,36 +7,32 @@ use mathlib.Core.Path.{_≡_}
 use mathlib.Core.List.{List, _++_}
 use mathlib.Core.Logic.{_⊎_, _↔_}
 use lib.ListN.{length, drop}
+use Rattle.network.specs.Limits.{mostNodes, pathWords, workWords}
 use Rattle.network.specs.Net.{Net, Ends, IsPath, sum}
-use Rattle.network.specs.Words.{Links}
+use Rattle.network.specs.Words.{LinkTable}
 use Rattle.network.specs.Problem.{Best, NoPath, NoSolution, Distance}
 use Rattle.network.specs.declared.Request.{Request}
-use Rattle.network.specs.declared.Answer.{Answer}
-use Rattle.network.specs.declared.Answer.the-variants as answer
-use Rattle.network.specs.Reduce.{delayBound, costBound, one, two, WithinBounds, Enough, Outcome, no-path, no-solution, granted}
+use Rattle.network.specs.declared.SearchAnswer.{SearchAnswer}
+use Rattle.network.specs.declared.SearchAnswer.the-variants as answer
+use Rattle.network.specs.Reduce.{delayBound, costBound, TermsInRange, one, two, WithinBounds, Enough, Outcome, no-path, no-solution, granted}
 use Rattle.search.specs.Heuristic.{search}
 
 -- ---- what it relies on
 -- the ranges and lengths that `route::search` requires; the upper crate checks them before it searches
 pub record Ready (n m : ℕ) (links usable work path : List ℕ) (r : Request) : Type 0 where
-  pub table : Links n m links
+  pub table : LinkTable n m links
   pub flags : m ≤ length usable
-  pub memory : 16384 ≤ length work
-  pub buffer : 31 ≤ length path
+  pub memory : workWords ≤ length work
+  pub buffer : pathWords ≤ length path
   pub source : r .source < n
   pub target : r .target < n
   pub apart : r .source ≡ r .target → ⊥
-  pub delay-some : 0 < delayBound r
-  pub delay-most : delayBound r ≤ 31000000
-  pub cost-some : 0 < costBound r
-  pub cost-most : costBound r ≤ 31000000
-  pub coefficient-some : 0 < r .coefficient
-  pub coefficient-most : r .coefficient ≤ 8
+  pub terms : TermsInRange r
 
 -- a network and a request that may be searched for: document 01's ranges, as far as the result needs them
 pub record Searchable (g : Net) (r : Request) : Type 0 where
   pub ends : Ends g
-  pub few : g .nodes ≤ 32
+  pub few : g .nodes ≤ mostNodes
   pub source : r .source < g .nodes
   pub target : r .target < g .nodes
   pub apart : r .source ≡ r .target → ⊥
@@ -95,10 +91,10 @@ pub record Alike (g o : Net) : Type 0 where
 
 -- ---- what it answers
 -- the code's enum for each outcome: the totals are the path's own sums
-unfoldable pub answerOf : Net → Outcome → Answer
-answerOf g no-path = answer.NoPath
-answerOf g no-solution = answer.NoSolution
-answerOf g (granted which p) =
+unfoldable pub searchAnswerOf : Net → Outcome → SearchAnswer
+searchAnswerOf g no-path = answer.NoPath
+searchAnswerOf g no-solution = answer.NoSolution
+searchAnswerOf g (granted which p) =
     answer.Granted (record { problem = which; delay = sum (g .delay) p; cost = sum (g .cost) p; links = length p })
 
 -- a granted path stands in the first words of the path buffer, the others keep theirs; else no word changes

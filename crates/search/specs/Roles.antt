@@ -2,6 +2,7 @@
 -- Assumes nothing.
 use Prim.Native.Nat.{ℕ, _≤_, _<_}
 use mathlib.Core.List.{List}
+use Rattle.network.specs.Limits.{mostBound}
 use Rattle.network.specs.Problem.{Problem}
 use Rattle.network.specs.Scale.{scaled}
 use Rattle.network.specs.Words.{field, netOf}
@@ -27,9 +28,9 @@ pub record Weights (w : Roles) : Type 0 where
   pub other-low : 2 ≤ w .other
   pub other-high : w .other ≤ 3
   pub kept-some : 0 < w .«kept_bound»
-  pub kept-most : w .«kept_bound» ≤ 31000000
+  pub kept-most : w .«kept_bound» ≤ mostBound
   pub other-some : 0 < w .«other_bound»
-  pub other-most : w .«other_bound» ≤ 31000000
+  pub other-most : w .«other_bound» ≤ mostBound
 
 -- the problem with the weights of these links in the roles w
 unfoldable pub problemBy : List ℕ → ℕ → Roles → Problem

@@ -3,9 +3,10 @@
 use Prim.Native.Nat.{ℕ, _≤_, _<_}
 use mathlib.Core.List.{List, []}
 use lib.ListN.{length, getD}
+use Rattle.network.specs.Limits.{mostBound, mostWeight, mostX}
 use Rattle.network.specs.Net.{Net}
 use Rattle.network.specs.Problem.{Problem}
-use Rattle.network.specs.Words.{netOf, Links}
+use Rattle.network.specs.Words.{netOf, LinkTable}
 use Rattle.search.specs.declared.Reduced.{Reduced}
 
 -- the kept weights and the scaled weights as columns with an entry for each link
@@ -28,12 +29,12 @@ scaledOnly p scaled = problemOf p [] scaled
 
 -- the numbers, the link table and the kept weights are in their ranges
 pub record Prepared (p : Reduced) (links kept : List ℕ) : Type 0 where
-  pub table : Links (p .nodes) (p .links) links
-  pub x : p .x ≤ 248
-  pub bound : p .bound ≤ 31000000
-  pub weight : (i : ℕ) → i < p .links → getD kept i 0 ≤ 1000000
+  pub table : LinkTable (p .nodes) (p .links) links
+  pub x : p .x ≤ mostX
+  pub bound : p .bound ≤ mostBound
+  pub weight : (i : ℕ) → i < p .links → getD kept i 0 ≤ mostWeight
 
 -- the same, and a flag for each link
-pub record Sound (p : Reduced) (links usable kept : List ℕ) : Type 0 where
+pub record Flagged (p : Reduced) (links usable kept : List ℕ) : Type 0 where
   pub prepared : Prepared p links kept
   pub flags : p .links ≤ length usable

@@ -5,7 +5,7 @@
 
 // A place on the way back from the target: the node, the scaled weight that may still be spent before it, and
 // the set of the nodes that were left so far.
-pub struct Trail {
+pub struct TracePlace {
     pub node: usize,
     pub column: usize,
     pub left: u32,
@@ -22,7 +22,7 @@ pub struct Roles {
 }
 
 // How far a path has come: the node, and the links, the delay and the cost so far.
-pub struct Leg {
+pub struct PartialPath {
     pub node: usize,
     pub links: usize,
     pub delay: u32,

@@ -7,35 +7,39 @@ ghost use Rattle.area.specs.Formed.{wellFormed};
 ghost use Rattle.area.specs.FreeIn.{freeIn};
 use crate::circuits::circuits_fit;
 use crate::layout;
-use crate::range::in_range;
 use crate::table::links_fit;
 use crate::units::take_circuits;
 use crate::units::unfit;
 use area::Checked;
 use links::link;
+use links::range::in_range;
+use network::limits::LEAST_NODES;
+use network::limits::LINK_WORDS;
+use network::limits::MOST_LINKS;
+use network::limits::MOST_NODES;
 
 // Whether the area is well formed, and every link's free units; these are all 0 where it is not.
 pub fn check(area: &[u32]) -> Checked
     ensures formed { λ r. ⌜ r .formed ≡ wellFormed (now (area .entry)) ⌝ }
     ensures free { λ r. ⌜ ((i : ℕ) → getD (r .free) i 0 ≡ freeIn (now (area .entry)) i) ⌝ }
 {
-    if area.len() < layout::AREA {
+    if area.len() < layout::AREA_WORDS {
         return unfit();
     }
     let n = area[layout::NODES];
-    if !in_range(2, 32, n) {
+    if !in_range(LEAST_NODES, MOST_NODES, n) {
         return unfit();
     }
     let m = link::wide(area[layout::LINKS]);
-    if 256 < m {
+    if MOST_LINKS < m {
         return unfit();
     }
-    let links = layout::part(area, layout::FIRST_LINK, 5 * m);
+    let links = layout::part(area, layout::FIRST_LINK, LINK_WORDS * m);
     if !links_fit(n, m, links) {
         return unfit();
     }
     let h = link::wide(area[layout::HELD]);
-    if 64 < h {
+    if layout::MOST_CIRCUITS < h {
         return unfit();
     }
     if !circuits_fit(m, links, area, h) {

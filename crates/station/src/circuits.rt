@@ -2,18 +2,23 @@
 ghost use mathlib.Core.Path.{_≡_};
 ghost use Prim.Native.Nat.{_≤_, _<_};
 ghost use lib.ListN.{length};
+ghost use Rattle.area.specs.Layout.{circuitWords, mostCircuits};
 ghost use Rattle.area.specs.Station.{circuitOf, circuits};
 ghost use Rattle.area.specs.Formed.{goesOn, pathFits, circuitFits, heldFit};
-ghost use Rattle.area.specs.Ready.{Links, Room, placeFits};
+ghost use Rattle.area.specs.Parts.{CheckedLinks, Room, placeFits};
 use crate::held::find;
 use crate::layout;
-use crate::range::in_range;
 use links::link;
 use links::node_set;
+use links::range::in_range;
+use network::limits::LEAST_PATH_LINKS;
+use network::limits::LEAST_UNITS;
+use network::limits::MOST_PATH_LINKS;
+use network::limits::MOST_UNITS;
 
 // Whether link `i` goes on from node `v`, to a node that is not in `seen`.
 fn goes_on(m: usize, links: &[u32], v: u32, seen: u32, i: usize) -> bool
-    requires { ⌜ Links m (now links) ⌝ }
+    requires { ⌜ CheckedLinks m (now links) ⌝ }
     ensures { λ r. ⌜ r ≡ goesOn m (now (links .entry)) v seen i ⌝ }
 {
     if m <= i {
@@ -28,7 +33,7 @@ fn goes_on(m: usize, links: &[u32], v: u32, seen: u32, i: usize) -> bool
 
 // Whether `path` is a path of the table.
 fn path_fits(m: usize, links: &[u32], path: &[u32]) -> bool
-    requires { ⌜ Links m (now links) ⌝ }
+    requires { ⌜ CheckedLinks m (now links) ⌝ }
     requires { ⌜ 1 ≤ length (now path) ⌝ }
     ensures { λ r. ⌜ r ≡ pathFits m (now (links .entry)) (now (path .entry)) ⌝ }
 {
@@ -49,19 +54,19 @@ fn path_fits(m: usize, links: &[u32], path: &[u32]) -> bool
     true
 }
 
-// Whether a circuit's 34 words are in range and its path is one of the table.
+// Whether a circuit's words are in range and its path is one of the table.
 fn circuit_fits(m: usize, links: &[u32], circuit: &[u32]) -> bool
-    requires { ⌜ Links m (now links) ⌝ }
-    requires { ⌜ length (now circuit) ≡ 34 ⌝ }
+    requires { ⌜ CheckedLinks m (now links) ⌝ }
+    requires { ⌜ length (now circuit) ≡ circuitWords ⌝ }
     ensures { λ r. ⌜ r ≡ circuitFits m (now (links .entry)) (circuitOf (now (circuit .entry))) ⌝ }
 {
-    if !in_range(1, 65535, circuit[0]) {
+    if !in_range(layout::LEAST_NUMBER, layout::MOST_NUMBER, circuit[0]) {
         return false;
     }
-    if !in_range(1, 65535, circuit[1]) {
+    if !in_range(LEAST_UNITS, MOST_UNITS, circuit[1]) {
         return false;
     }
-    if !in_range(1, 31, circuit[2]) {
+    if !in_range(LEAST_PATH_LINKS, MOST_PATH_LINKS, circuit[2]) {
         return false;
     }
     let l = link::wide(circuit[2]);
@@ -70,13 +75,13 @@ fn circuit_fits(m: usize, links: &[u32], circuit: &[u32]) -> bool
 
 // Whether circuit `j` fits, and none before it has its number.
 fn place_fits(m: usize, links: &[u32], area: &[u32], j: usize) -> bool
-    requires { ⌜ Links m (now links) ⌝ }
+    requires { ⌜ CheckedLinks m (now links) ⌝ }
     requires { ⌜ Room (now area) j ⌝ }
-    requires { ⌜ j < 64 ⌝ }
+    requires { ⌜ j < mostCircuits ⌝ }
     ensures { λ r. ⌜ r ≡ placeFits m (now (links .entry)) (now (area .entry)) j ⌝ }
 {
     let at = layout::place(j);
-    if !circuit_fits(m, links, layout::part(area, at, layout::CIRCUIT)) {
+    if !circuit_fits(m, links, layout::part(area, at, layout::CIRCUIT_WORDS)) {
         return false;
     }
     find(area, j, area[at]) == j
@@ -85,7 +90,7 @@ fn place_fits(m: usize, links: &[u32], area: &[u32], j: usize) -> bool
 // Whether the first `h` circuits fit and their numbers differ. The check of an area calls it past its tests of the
 // length, the links and `h`.
 pub fn circuits_fit(m: usize, links: &[u32], area: &[u32], h: usize) -> bool
-    requires { ⌜ Links m (now links) ⌝ }
+    requires { ⌜ CheckedLinks m (now links) ⌝ }
     requires { ⌜ Room (now area) h ⌝ }
     ensures { λ r. ⌜ r ≡ heldFit m (now (links .entry)) (circuits (now (area .entry)) h) ⌝ }
 {

@@ -8,7 +8,6 @@ mod circuits;
 pub mod held;
 pub mod layout;
 pub mod load;
-pub mod range;
 pub mod reads;
 pub mod store;
 mod table;

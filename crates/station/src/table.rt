@@ -2,13 +2,17 @@
 ghost use mathlib.Core.Path.{_≡_};
 ghost use Prim.Native.Nat.{_*_, _<_, _≤_};
 ghost use lib.ListN.{length};
+ghost use Rattle.network.specs.Limits.{linkWords, mostLinks};
 ghost use Rattle.area.specs.Formed.{linkFits, linksFit};
 use links::link;
+use network::limits::MOST_CAPACITY;
+use network::limits::MOST_COST;
+use network::limits::MOST_DELAY;
 
 // Whether link `i` of `m` has both ends among `n` nodes and apart, and its weights and its capacity in range.
 fn link_fits(n: u32, m: usize, links: &[u32], i: usize) -> bool
-    requires { ⌜ length (now links) ≡ 5 * m ⌝ }
-    requires { ⌜ (m ≤ 256) × (i < m) ⌝ }
+    requires { ⌜ length (now links) ≡ linkWords * m ⌝ }
+    requires { ⌜ (m ≤ mostLinks) × (i < m) ⌝ }
     ensures { λ r. ⌜ r ≡ linkFits (record { nodes = n; links = m; words = now (links .entry) }) i ⌝ }
 {
     let from = link::word(links, i, link::FROM);
@@ -22,19 +26,19 @@ fn link_fits(n: u32, m: usize, links: &[u32], i: usize) -> bool
     if from == to {
         return false;
     }
-    if 1000000 < link::word(links, i, link::DELAY) {
+    if MOST_DELAY < link::word(links, i, link::DELAY) {
         return false;
     }
-    if 1000000 < link::word(links, i, link::COST) {
+    if MOST_COST < link::word(links, i, link::COST) {
         return false;
     }
-    link::word(links, i, link::CAPACITY) <= 65535
+    link::word(links, i, link::CAPACITY) <= MOST_CAPACITY
 }
 
 // Whether every link fits. Load has counted the words before, and the check of an area lends five for each link.
 pub fn links_fit(n: u32, m: usize, links: &[u32]) -> bool
-    requires { ⌜ length (now links) ≡ 5 * m ⌝ }
-    requires { ⌜ m ≤ 256 ⌝ }
+    requires { ⌜ length (now links) ≡ linkWords * m ⌝ }
+    requires { ⌜ m ≤ mostLinks ⌝ }
     ensures { λ r. ⌜ r ≡ linksFit (record { nodes = n; links = m; words = now (links .entry) }) ⌝ }
 {
     for i in 0..m {

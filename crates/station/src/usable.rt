@@ -2,7 +2,9 @@
 ghost use mathlib.Core.Path.{_≡_};
 ghost use Prim.Native.Nat.{ℕ, _<_};
 ghost use lib.ListN.{getD};
+ghost use Rattle.network.specs.Limits.{mostLinks};
 ghost use Rattle.area.specs.Usable.{flag};
+use network::limits::MOST_LINKS;
 
 // 1 where the free units are enough, else 0.
 fn flag(units: u32, free: u32) -> u32
@@ -15,11 +17,11 @@ fn flag(units: u32, free: u32) -> u32
 }
 
 // The flag of each link.
-pub fn usable(free: &[u32; 256], units: u32) -> [u32; 256]
-    ensures { λ r. ⌜ ((i : ℕ) → i < 256 → getD r i 0 ≡ flag units (getD (now (free .entry)) i 0)) ⌝ }
+pub fn usable(free: &[u32; MOST_LINKS], units: u32) -> [u32; MOST_LINKS]
+    ensures { λ r. ⌜ ((i : ℕ) → i < mostLinks → getD r i 0 ≡ flag units (getD (now (free .entry)) i 0)) ⌝ }
 {
-    let mut flags = [0; 256];
-    for i in 0..256 {
+    let mut flags = [0; MOST_LINKS];
+    for i in 0..MOST_LINKS {
         flags[i] = flag(units, free[i]);
     }
     flags

@@ -15,9 +15,9 @@ use Rattle.text_format.proofs.Digits.{decimal-short}
 -- ---- one list and then another behind it
 pub sets-sets : (t a b : List ℕ) (at : ℕ) → sets (sets t at a) (at + length a) b ≡ sets t at (a ++ b)
 sets-sets t [] b at = rw add-zero
-sets-sets t (x ∷ a) b at =
+sets-sets t (byte ∷ a) b at =
     let e : at + suc (length a) ≡ suc at + length a = omega arith in
-    rw e (sets-sets (set t at x) a b (suc at))
+    rw e (sets-sets (set t at byte) a b (suc at))
 
 -- these bytes are put from a place on, and r is the place behind them
 abbrev pub Put : List ℕ → ℕ → List ℕ → List ℕ → ℕ → Type 0

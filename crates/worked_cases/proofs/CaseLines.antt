@@ -20,7 +20,7 @@ use Rattle.cases.proofs.Rows.{many, row-at}
 use Rattle.worked_cases.specs.Lines.{askedIn, nameText, replyText, caseLine, linesOf, caseLines}
 
 -- ---- one line
--- of the path buffer after a call the granted path alone is told, whatever the buffer held before
+-- of the path buffer after a call the granted path alone is put, whatever the buffer held before
 reply-text : (a : PathReply) (l : List ℕ) → answerText (answerOf a) (pathAfter a l) ≡ replyText a
 unfolding replyText answerText answerOf grantText pathAfter
 reply-text (refuses k) l = refl
@@ -31,15 +31,15 @@ reply-text (grants g) l =
 -- what a call answered, behind the numbers of row i, is the line of case i, if the reply is that of the case
 pub case-put : (i : ℕ) → i < 15 → (r : List ℕ) → r ≡ getD rows i []
     → (a : PathReply) → a ≡ caseAt i .reply
-    → (l p : List ℕ) (x : RequestAnswer) → x ≡ answerOf a → p ≡ pathAfter a l
-    → (t t' t'' : List ℕ) (at m e : ℕ) → Put t at (nameText r) t' m → Put t' m (answerText x p) t'' e
+    → (l p : List ℕ) (said : RequestAnswer) → said ≡ answerOf a → p ≡ pathAfter a l
+    → (t t' t'' : List ℕ) (at m e : ℕ) → Put t at (nameText r) t' m → Put t' m (answerText said p) t'' e
     → Put t at (caseLine (caseAt i)) t'' e
 unfolding caseLine
-case-put i low r is a replied l p x answer path t t' t'' at m e name put =
-    let told : answerText x p ≡ replyText (caseAt i .reply) =
+case-put i low r is a replied l p said answer path t t' t'' at m e name put =
+    let stated : answerText said p ≡ replyText (caseAt i .reply) =
     ap₂ answerText answer path ∙ reply-text a l ∙ ap replyText replied in
-    let both = put-behind t t' t'' (nameText r) (answerText x p) at m e name put in
-    subst (λ (b : List ℕ). Put t at b t'' e) (ap₂ _++_ (ap nameText (is ∙ row-at i low)) told) both
+    let both = put-behind t t' t'' (nameText r) (answerText said p) at m e name put in
+    subst (λ (b : List ℕ). Put t at b t'' e) (ap₂ _++_ (ap nameText (is ∙ row-at i low)) stated) both
 
 -- ---- what the line is about, one part behind the other
 pub name-put : (r t t1 t2 t3 t4 : List ℕ) (at m n o e : ℕ) → Put t at (77 ∷ []) t1 m → Put t1 m (decimal (getD r 0 0)) t2 n

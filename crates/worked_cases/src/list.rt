@@ -5,6 +5,7 @@ ghost use mathlib.Core.List.{[]};
 ghost use Prim.Native.Nat.{_+_, _<_, _≤_};
 ghost use lib.ListN.{length, getD};
 ghost use lib.Seq.{sets};
+ghost use Rattle.area.specs.Layout.{areaWords};
 ghost use Rattle.area.specs.Station.{station};
 ghost use Rattle.area.specs.Formed.{WellFormed};
 ghost use Rattle.cases.specs.Document01.{onA, afterM8, onNone, onB, areaIn, caseAt, rows, requestOf};
@@ -14,6 +15,8 @@ use booking::quote::quote;
 use cases::NET_A;
 use cases::NET_B;
 use network::Request;
+use network::limits::PATH_WORDS;
+use network::limits::WORK_WORDS;
 use station::load::load;
 
 // The areas that cases stand on, as the rows number them: net A, net A after M8's admission, no links, net B.
@@ -76,7 +79,8 @@ fn request(row: [u32; 10]) -> Request
 }
 
 // Net A.
-fn load_a(area: &mut [u32; 3459])
+fn load_a(area: &mut [u32])
+    requires { ⌜ areaWords ≤ length (now area) ⌝ }
     ensures formed { λ _. ⌜ WellFormed (now (area .exit)) ⌝ }
     ensures station { λ _. ⌜ station (now (area .exit)) ≡ station (areaIn onA) ⌝ }
 {
@@ -85,18 +89,20 @@ fn load_a(area: &mut [u32; 3459])
 }
 
 // Net A, and then M8's admission as its row has it.
-fn load_and_admit(area: &mut [u32; 3459], work: &mut [u32; 16384])
+fn load_and_admit(area: &mut [u32], work: &mut [u32; WORK_WORDS])
+    requires { ⌜ areaWords ≤ length (now area) ⌝ }
     ensures formed { λ _. ⌜ WellFormed (now (area .exit)) ⌝ }
     ensures station { λ _. ⌜ station (now (area .exit)) ≡ station (areaIn afterM8) ⌝ }
 {
     let row = row_at(M8);
-    let mut path: [u32; 31] = [99; 31];
+    let mut path: [u32; PATH_WORDS] = [99; PATH_WORDS];
     load_a(area);
     calls::admit(area, work, &mut path, row[3], request(row));
 }
 
 // No links.
-fn load_none(area: &mut [u32; 3459])
+fn load_none(area: &mut [u32])
+    requires { ⌜ areaWords ≤ length (now area) ⌝ }
     ensures formed { λ _. ⌜ WellFormed (now (area .exit)) ⌝ }
     ensures station { λ _. ⌜ station (now (area .exit)) ≡ station (areaIn onNone) ⌝ }
 {
@@ -104,7 +110,8 @@ fn load_none(area: &mut [u32; 3459])
 }
 
 // Net B.
-fn load_b(area: &mut [u32; 3459])
+fn load_b(area: &mut [u32])
+    requires { ⌜ areaWords ≤ length (now area) ⌝ }
     ensures formed { λ _. ⌜ WellFormed (now (area .exit)) ⌝ }
     ensures station { λ _. ⌜ station (now (area .exit)) ≡ station (areaIn onB) ⌝ }
 {
@@ -113,7 +120,8 @@ fn load_b(area: &mut [u32; 3459])
 }
 
 // Makes of the area, whatever it held, one that reads as the area of this number.
-fn prepare(area: &mut [u32; 3459], work: &mut [u32; 16384], which: u32)
+fn prepare(area: &mut [u32], work: &mut [u32; WORK_WORDS], which: u32)
+    requires { ⌜ areaWords ≤ length (now area) ⌝ }
     ensures formed { λ _. ⌜ WellFormed (now (area .exit)) ⌝ }
     ensures station { λ _. ⌜ station (now (area .exit)) ≡ station (areaIn which) ⌝ }
 {
@@ -155,22 +163,22 @@ fn put_name(text: &mut [u8; 8000], at: usize, row: [u32; 10]) -> usize
     text::put(text, end, b" =")
 }
 
-// The line of case `i`. The path buffer starts as 31 times 99, a number that no link has, so that a link that was not
+// The line of case `i`. The path buffer starts as 99 in every word, a number that no link has, so that a link that was not
 // written shows.
 fn put_case(
-    area: &mut [u32; 3459],
-    work: &mut [u32; 16384],
+    area: &mut [u32],
+    work: &mut [u32; WORK_WORDS],
     text: &mut [u8; 8000],
     at: usize,
     i: usize,
 ) -> usize
-    requires { ⌜ (i < 15) × (at + 500 ≤ 8000) ⌝ }
+    requires { ⌜ (i < 15) × (at + 500 ≤ 8000) × (areaWords ≤ length (now area)) ⌝ }
     ensures end { λ r. ⌜ (r ≡ at + length (caseLine (caseAt i))) × (r ≤ at + 500) ⌝ }
     ensures text { λ _. ⌜ now (text .exit) ≡ sets (now (text .entry)) at (caseLine (caseAt i)) ⌝ }
 {
     let row = row_at(i);
     let r = request(row);
-    let mut path: [u32; 31] = [99; 31];
+    let mut path: [u32; PATH_WORDS] = [99; PATH_WORDS];
     prepare(area, work, row[1]);
     let named = put_name(text, at, row);
     if row[2] == QUOTE {
@@ -183,10 +191,11 @@ fn put_case(
 
 // The lines of all cases. A line has at most 500 bytes, so the text has room for them.
 pub(crate) fn put_cases(
-    area: &mut [u32; 3459],
-    work: &mut [u32; 16384],
+    area: &mut [u32],
+    work: &mut [u32; WORK_WORDS],
     text: &mut [u8; 8000],
 ) -> usize
+    requires { ⌜ areaWords ≤ length (now area) ⌝ }
     ensures end { λ r. ⌜ (r ≡ length caseLines) × (r ≤ 8000) ⌝ }
     ensures text { λ _. ⌜ now (text .exit) ≡ sets (now (text .entry)) 0 caseLines ⌝ }
 {

@@ -1,4 +1,4 @@
-//! The goals, held against the rows of the first table. A missed goal is told and changes nothing else.
+//! The goals, held against the rows of the first table. A missed goal is printed and changes nothing else.
 
 use crate::timing::Times;
 
@@ -21,8 +21,8 @@ impl Worst {
     }
 
     fn print(&self, goal: &str, most: f64) {
-        let told = if self.ratio <= most { "met" } else { "missed" };
-        println!("goal: {goal}: {:.2} at {}, {told}", self.ratio, self.place);
+        let met = if self.ratio <= most { "met" } else { "missed" };
+        println!("goal: {goal}: {:.2} at {}, {met}", self.ratio, self.place);
     }
 }
 

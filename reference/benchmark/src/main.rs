@@ -1,8 +1,10 @@
 //! The benchmark: how long a quote and an admission with its release take in the proved archive and in a plain Rust
-//! search by the paper's lines, with all rounds, with an early stop and with the proved search's own stop.
-//! docs/performance.md has what it prints.
+//! search by the paper's lines, with all rounds, with an early stop and with the proved search's own stop; then each call
+//! of the C interface at its largest or slowest input. docs/performance.md has what it prints, docs/MANUAL.md the last
+//! table.
 
 mod answer;
+mod calls;
 mod goals;
 mod implementations;
 mod jobs;
@@ -25,7 +27,8 @@ fn tables() -> Result<(), String> {
     tables::by_x(&mut implementations)?;
     println!();
     goals.print();
-    Ok(())
+    println!();
+    calls::worst()
 }
 
 fn main() -> ExitCode {

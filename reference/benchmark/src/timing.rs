@@ -41,7 +41,7 @@ fn turn(implementations: &mut Implementations, which: Which, call: Call, jobs: &
     start.elapsed().as_secs_f64() * 1e6 / jobs.len() as f64
 }
 
-fn median(mut times: Vec<f64>) -> f64 {
+pub fn median(mut times: Vec<f64>) -> f64 {
     times.sort_by(f64::total_cmp);
     times[times.len() / 2]
 }

@@ -40,11 +40,11 @@ unfolding loadingText
 returns c =
     let line = c .before .before in
     let zero = line .before .before .before .before .before in
-    let told = zero .before .before .before .before in
-    let a = told .before .before .before .args in
-    let e = put-behind (a .text .now) _ _ (48 ∷ []) (lineText (told .loading .given .0 .0 ∷ [])) (a .at) _ _
+    let stated = zero .before .before .before .before in
+    let a = stated .before .before .before .args in
+    let e = put-behind (a .text .now) _ _ (48 ∷ []) (lineText (stated .loading .given .0 .0 ∷ [])) (a .at) _ _
     (zero .put .ensures) (line .put-line .ensures .0, line .put-line .ensures .1 .1) in
-    rw (told .loading .given .1) (e .0, (omega arith, e .1))
+    rw (stated .loading .given .1) (e .0, (omega arith, e .1))
 
 same-length-2 : tie.Need-same-length-2
 same-length-2 c = search needs

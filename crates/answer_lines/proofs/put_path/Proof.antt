@@ -5,8 +5,8 @@ use borrow.Author.Needs.{needs}
 use Rattle.answer_lines.proofs.put_path.Statement.{statement}
 use Rattle.answer_lines.proofs.put_path.Tie as tie
 
-path-told-requires : tie.Need-path-told-requires
-path-told-requires c κs = search needs
+path-words-requires : tie.Need-path-words-requires
+path-words-requires c κs = search needs
 
 put-line-requires : tie.Need-put-line-requires
 put-line-requires c κs = search needs
@@ -17,8 +17,8 @@ same-length c = search needs
 returns : tie.Need-returns
 returns c =
     let line = c .before .before in
-    let e = rw (line .before .path-told .ensures .0) at (line .put-line .ensures) in
+    let e = rw (line .before .path-words .ensures .0) at (line .put-line .ensures) in
     (e .0, (omega arith, e .1 .1))
 
 pub put-path-spec : {M : Type 1} → statement M
-put-path-spec = tie.close (tie.spec path-told-requires put-line-requires same-length returns)
+put-path-spec = tie.close (tie.spec path-words-requires put-line-requires same-length returns)

@@ -21,20 +21,27 @@ write-all-requires c κs = search needs
 run-requires-2 : tie.Need-run-requires-2
 run-requires-2 c κs = search needs
 
+same-length : tie.Need-same-length
+same-length c = search needs
+
+same-length-2 : tie.Need-same-length-2
+same-length-2 c = search needs
+
 returns : tie.Need-returns
 returns c =
-    let first = c .before .before .before .before .before in
-    let a = first .before .before .before .args in
+    let second = c .before .before in
+    let first = second .before .before .before .before .before .before .before in
+    let a = first .before .before .before .before .before .args in
     let one = first .run .ensures in
-    let two = c .run2 .ensures in (
+    let two = second .run2 .ensures in (
       one .1 .0,
       (
         two .1 .0,
         (
           one .1 .1,
           (
-            two .1 .1 ∙ ap (sets (a .again .now) 0) (text-again (a .first .now) (a .second .now) (one .0) (two .0)),
-            same-bookings (a .first .now) (a .second .now) (first .run .last .1 .0) (c .run2 .last .1 .0) (one .0) (two .0) (one .1 .0) (two .1 .0),
+            two .1 .1 ∙ ap (sets (a .unquoted .now) 0) (text-again (a .first .now) (a .second .now) (one .0) (two .0)),
+            same-bookings (a .first .now) (a .second .now) (first .run .last .1 .0) (second .run2 .last .1 .0) (one .0) (two .0) (one .1 .0) (two .1 .0),
           ),
         ),
       ),
@@ -43,4 +50,11 @@ returns c =
 pub both-runs-spec : {M : Type 1} → statement M
 both-runs-spec =
     tie.close
-    (tie.spec run-requires slice-aggregate-write-all write-all-requires run-requires-2 returns)
+    (tie.spec
+    run-requires
+    slice-aggregate-write-all
+    write-all-requires
+    run-requires-2
+    same-length
+    same-length-2
+    returns)

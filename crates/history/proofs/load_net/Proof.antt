@@ -1,6 +1,5 @@
--- `history::load_net` meets its contract: an area of 3459 words takes net A.
+-- `history::load_net` meets its contract: an area that is long enough takes net A.
 -- Assumes nothing.
-use native.Mathlib.Omega.{arith}
 use borrow.Author.Needs.{needs}
 use Rattle.call_list.proofs.Runs.{load-accepts}
 use Rattle.history.proofs.load_net.Statement.{statement}
@@ -15,11 +14,15 @@ load-requires c κs = search needs
 write-loading-requires : tie.Need-write-loading-requires
 write-loading-requires c κs = search needs
 
+same-length : tie.Need-same-length
+same-length c = search needs
+
 returns : tie.Need-returns
 returns c =
-    let made = c .before in
-    (load-accepts (made .before .before .before .args .area .now) (omega (arith, made .before .load-arg .given)), made .load .ensures .1)
+    let made = c .before .before .before in
+    let start = made .before .before .before .before in
+    (load-accepts (start .args .area .now) (start .pre), made .load .ensures .1)
 
 pub load-net-spec : {M : Type 1} → statement M
 load-net-spec =
-    tie.close (tie.spec slice-aggregate-load load-requires write-loading-requires returns)
+    tie.close (tie.spec slice-aggregate-load load-requires write-loading-requires same-length returns)

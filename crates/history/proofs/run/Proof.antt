@@ -27,11 +27,14 @@ circuits-held-requires c κs = search needs
 every-free-requires : tie.Need-every-free-requires
 every-free-requires c κs = search needs
 
+same-length : tie.Need-same-length
+same-length c = search needs
+
 returns : tie.Need-returns
 returns c =
-    let called = c .before .before .before .before .before .before .before in
-    let loaded = called .before .before .before in
-    let a = loaded .before .before .args in
+    let called = c .before .before .before .before .before .before .before .before .before in
+    let loaded = called .before .before .before .before .before in
+    let a = loaded .before .before .before .args in
     let area = loaded .load-net .ensures .1 in (
       loaded .load-net .ensures .0,
       (
@@ -49,4 +52,5 @@ run-spec =
     write-text-requires
     circuits-held-requires
     every-free-requires
+    same-length
     returns)

@@ -9,6 +9,7 @@ use native.Mathlib.Omega.{arith}
 use borrow.Author.Needs.{needs}
 use borrow.Author.Tests.{not-true, not-false}
 use lib.ListN.{length}
+use Rattle.network.specs.Limits.{linkWords, mostLinks}
 use Rattle.link_format.specs.Reading.{signed, offsetIn, linksIn}
 use Rattle.link_format.proofs.ReadCases.{signed-long, unsigned, many-links, not-filled, short-table, read-from}
 use Rattle.link_file.proofs.read.Statement.{statement}
@@ -29,8 +30,8 @@ long c = signed-long (file c) (trailing c)
 links-read : (c : tie.After-wide) → c .wide .result ≡ linksIn (file (c .before .before))
 links-read c = c .wide .ensures ∙ c .before .word .ensures
 
-few : (c : tie.Else2) → linksIn (file (c .before .before .before)) ≤ 256
-few c = subst (λ (m : ℕ). m ≤ 256) (links-read (c .before)) (c .if2 .left)
+few : (c : tie.Else2) → linksIn (file (c .before .before .before)) ≤ mostLinks
+few c = subst (λ (m : ℕ). m ≤ mostLinks) (links-read (c .before)) (c .if2 .left)
 
 -- the offset that was read, and past the third check the parts make the whole file
 offset-read : (c : tie.After-wide2) → c .wide2 .result ≡ offsetIn (file (c .before .before .before .before .before))
@@ -62,7 +63,7 @@ returns-2 c =
     let at-signed = c .before .before .before in
     let a = at-signed .before .before .before .before .args in
     many-links (a .file .now) (a .table .now) (trailing at-signed)
-    (subst (λ (m : ℕ). 256 < m) (links-read (c .before)) (c .if2 .taken))
+    (subst (λ (m : ℕ). mostLinks < m) (links-read (c .before)) (c .if2 .taken))
 
 sub-word-2 : tie.Need-sub-word-2
 sub-word-2 c = omega (arith, long (c .before .before .before))
@@ -99,7 +100,7 @@ returns-4 c =
     let at-signed = at-links .before .before .before in
     let a = at-signed .before .before .before .before .args in
     short-table (a .file .now) (a .table .now) (trailing at-signed) (few at-links) (sym (sum-read at-sum) ∙ c .before .if3 .left)
-    (subst (λ (m : ℕ). length (a .table .now) < 5 * m) (links-read (at-links .before)) (c .if4 .taken))
+    (subst (λ (m : ℕ). length (a .table .now) < linkWords * m) (links-read (at-links .before)) (c .if4 .taken))
 
 sub-read-records : tie.Need-sub-read-records
 sub-read-records c = search needs
@@ -135,7 +136,7 @@ returns-5 c =
     (offset-read at-sum)
     (links-read (at-links .before))
     (c .before .before .before .read-records .ensures)
-    (subst (λ (m : ℕ). 5 * m ≤ length (a .table .now)) (links-read (at-links .before)) (at-table .if4 .left))
+    (subst (λ (m : ℕ). linkWords * m ≤ length (a .table .now)) (links-read (at-links .before)) (at-table .if4 .left))
 
 pub read-spec : {M : Type 1} → statement M
 read-spec =

@@ -28,13 +28,13 @@ wide-requires-3 c κs = search needs
 mul-x : tie.Need-mul-x
 mul-x c =
     let ready = c .before .before .before .before .before .before .before .before .before .pre in
-    omega (arith, x-below (c .wide3 .result) (c .before .before .distance .result) (c .wide3 .ensures) (ready .coefficient-most) (c .before .if1 .left) (ready .table .nodes-most))
+    omega (arith, x-below (c .wide3 .result) (c .before .before .distance .result) (c .wide3 .ensures) (ready .terms .coefficient-most) (c .before .if1 .left) (ready .table .nodes-most))
 
 both-problems-requires : tie.Need-both-problems-requires
 both-problems-requires c κs =
     let ready = c .before .before .before .before .before .before .before .before .before .before .before .pre in
     let low = c .before .before .before .if1 .left in
-    let below = x-below (c .before .before .wide3 .result) (c .before .before .before .before .distance .result) (c .before .before .wide3 .ensures) (ready .coefficient-most) low (ready .table .nodes-most) in
+    let below = x-below (c .before .before .wide3 .result) (c .before .before .before .before .distance .result) (c .before .before .wide3 .ensures) (ready .terms .coefficient-most) low (ready .table .nodes-most) in
     (ready, omega (arith, below, low, ready .table .nodes-most))
 
 same-length : tie.Need-same-length
@@ -51,8 +51,8 @@ returns-2 c =
     let far = c .before .before .before .before .before .before .before .before .before .distance .ensures in
     let low = c .before .before .before .before .before .before .before .before .if1 .left in
     let coefficient = c .before .before .before .before .before .before .before .wide3 .ensures in
-    let told = c .before .before .before .before .both-problems .ensures in
-    search-somewhere (args .n) (args .m) (args .links .now) (args .usable .now) (args .r) from to far (args .path .now) (told .0) (told .1) (omega (arith, low)) coefficient (omega arith)
+    let stated = c .before .before .before .before .both-problems .ensures in
+    search-somewhere (args .n) (args .m) (args .links .now) (args .usable .now) (args .r) from to far (args .path .now) (stated .0) (stated .1) (omega (arith, low)) coefficient (omega arith)
 
 pub search-spec : {M : Type 1} → statement M
 search-spec =

@@ -7,13 +7,14 @@ use mathlib.Core.List.{List}
 use Prim.Native.Nat.{ℕ, _+_, _*_, _-_, _<_}
 use lib.ListN.{replicate}
 use borrow.Author.Tests.{le-leb}
+use Rattle.network.specs.Limits.{mostNodes}
 use Rattle.network.specs.Net.{Net}
 use Rattle.network.specs.Problem.{Problem}
 use Rattle.network.proofs.Tests.{by-lt}
 use Rattle.search.specs.Result.{Alike}
-use Rattle.search.specs.declared.Trail.{Trail}
+use Rattle.search.specs.declared.TracePlace.{TracePlace}
 use Rattle.search.specs.ebf.Table.{cell, cells, linkAt, initialised, relaxed, offered, column, round, roundCount, rounds, ebf}
-use Rattle.search.specs.ebf.Trace.{trailBack, stepBack, traced}
+use Rattle.search.specs.ebf.Trace.{placeBack, stepBack, traced}
 use Rattle.search.specs.ebf.Solve.{pathIn, answerIn, solveIn, solve}
 use Rattle.search.proofs.Alike.{AlikeProblems, loop-depends, follow-depends}
 
@@ -41,8 +42,8 @@ module _ (g o : Net) (same : Alike g o) (q p : Problem) (alike : AlikeProblems (
       ∙ cc
 
   -- ---- the way back: it stays at a word that is no link
-  step-depends : (l : List ℕ) (s : ℕ) (st : Trail × List ℕ) → stepBack g q l s st ≡ stepBack o p l s st
-  unfolding stepBack trailBack
+  step-depends : (l : List ℕ) (s : ℕ) (st : TracePlace × List ℕ) → stepBack g q l s st ≡ stepBack o p l s st
+  unfolding stepBack placeBack
   step-depends l s st =
       let i : ℕ = linkAt l (cell (q .x) (st .0 .node) (st .0 .column)) in
       by-lt i (g .links)
@@ -53,7 +54,7 @@ module _ (g o : Net) (same : Alike g o) (q p : Problem) (alike : AlikeProblems (
   unfolding traced
   traced-depends l s t =
       loop-depends (λ _. stepBack g q l s) (λ _. stepBack o p l s) (cells (g .nodes) (q .x)) (cells (o .nodes) (p .x)) (cc)
-      (λ _ st _. step-depends l s st) (record { node = t; column = q .x; left = 0 }, replicate 32 0)
+      (λ _ st _. step-depends l s st) (record { node = t; column = q .x; left = 0 }, replicate mostNodes 0)
       ∙ cc
 
   -- ---- the answer

@@ -1,5 +1,5 @@
 -- What work memory held before makes no difference to the answer: lines 1 to 5 set every number, a link word is read
--- only where a relaxation wrote it, and so the trails of two memories go the same way.
+-- only where a relaxation wrote it, and so the traces of two memories go the same way.
 -- Assumes nothing.
 use mathlib.Core.Path.{_≡_, refl, sym, ap, _∙_}
 use mathlib.Core.Bool.{Bool, true, false, cond}
@@ -30,7 +30,7 @@ both-cond R true taken left = taken refl
 both-cond R false taken left = left
 
 module _ (g : Net) (q : Problem) (s : ℕ) where
-  -- every number is the same in both, and every link that a trail may read
+  -- every number is the same in both, and every link that a trace may read
   record Same (l l' : List ℕ) : Type 0 where
     pub room : Room g q l
     pub room' : Room g q l'
@@ -102,7 +102,7 @@ module _ (g : Net) (q : Problem) (s : ℕ) where
         links = λ v k v-low k-low other within. absurd (omega (arith, initialised-far g q s l room v k v-low k-low other, within));
       }
 
-  -- ---- two trails along a trace
+  -- ---- two memories along one trace
   module _ (ends : Ends g) (l l' : List ℕ) (same : Same l l') where
     -- where the same link is read, the turn is the same
     step-same : (v k : ℕ) (p : List ℕ) → via q l v k ≡ via q l' v k → stepBack g q l s (place g v k p) ≡ stepBack g q l' s (place g v k p)
@@ -110,18 +110,18 @@ module _ (g : Net) (q : Problem) (s : ℕ) where
     step-same v k p e = rw e
 
     -- both follow the trace, where every number is within the bound
-    trails-same : (n d v k : ℕ) (p : List ℕ) → v < g .nodes → k ≤ q .x → at q l v k ≤ q .bound → Trace g q s l n v k
+    traces-same : (n d v k : ℕ) (p : List ℕ) → v < g .nodes → k ≤ q .x → at q l v k ≤ q .bound → Trace g q s l n v k
         → iter (λ _. stepBack g q l s) (d + n) (place g v k p) ≡ iter (λ _. stepBack g q l' s) (d + n) (place g v k p)
-    trails-same zero d v k p v-low k-low within tr =
+    traces-same zero d v k p v-low k-low within tr =
         sym (iter-stays (λ _. stepBack g q l s) 0 d _ _ (iter-none _ _) (λ i. step-home g q s l (place g v k p) tr))
         ∙ iter-stays (λ _. stepBack g q l' s) 0 d _ _ (iter-none _ _) (λ i. step-home g q s l' (place g v k p) tr)
-    trails-same (suc n) d v k p v-low k-low within tr =
+    traces-same (suc n) d v k p v-low k-low within tr =
         let i : ℕ = via q l v k in
         let on = step-on g q s l v k p (tr .0) (tr .1) in
         let link : i ≡ via q l' v k = same .links v k v-low k-low (tr .0) within in
         let near : at q l (g .tail i) (k - q .scaledBy i) ≤ q .bound = omega (arith, tr .1 .falls) in
         rw (add-suc, iter-first (stepBack g q l s), iter-first (stepBack g q l' s), ← step-same v k p link, on)
-        (trails-same n d (g .tail i) (k - q .scaledBy i) (i ∷ p) (ends .tails i (tr .1 .listed)) (omega arith) near (tr .2))
+        (traces-same n d (g .tail i) (k - q .scaledBy i) (i ∷ p) (ends .tails i (tr .1 .listed)) (omega arith) near (tr .2))
 
     traced-same : Good g q s l → (t : ℕ) → t < g .nodes → at q l t (q .x) ≤ q .bound → traced g q l s t ≡ traced g q l' s t
     unfolding traced
@@ -129,7 +129,7 @@ module _ (g : Net) (q : Problem) (s : ℕ) where
         let tr = good .traced t (q .x) t-low (le-refl _) within in
         let all : ℕ = cells (g .nodes) (q .x) in
         let enough : all - tr .0 + tr .0 ≡ all = omega (arith, short g q s l ends (tr .0) t (q .x) (le-refl _) (tr .1)) in
-        rw enough at (trails-same (tr .0) (all - tr .0) t (q .x) [] t-low (le-refl _) within (tr .1))
+        rw enough at (traces-same (tr .0) (all - tr .0) t (q .x) [] t-low (le-refl _) within (tr .1))
 
     -- ---- the answer
     answer-same : Good g q s l → (t : ℕ) → t < g .nodes → answerIn g q l s t ≡ answerIn g q l' s t

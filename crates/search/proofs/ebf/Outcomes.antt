@@ -8,9 +8,10 @@ use Prim.Native.Nat.{ℕ, _-_, _≤_, _<_}
 use native.Mathlib.Omega.{arith}
 use lib.ListN.{length}
 use borrow.Author.Tests.{le-leb, lt-leb}
+use Rattle.network.specs.Limits.{pathWords, workWords}
 use Rattle.network.specs.Net.{Net, Ends}
 use Rattle.network.specs.Problem.{Problem}
-use Rattle.network.specs.Words.{netOf}
+use Rattle.network.specs.Words.{netOf, LinkTable}
 use Rattle.network.specs.Cut.{follow}
 use Rattle.search.specs.ebf.Table.{cell, cells, number, initialised, rounds, ebf}
 use Rattle.search.specs.ebf.Trace.{traced}
@@ -19,16 +20,14 @@ use Rattle.search.specs.Heuristic.{outcomeOf}
 use Rattle.search.proofs.ebf.Good.{Room}
 use Rattle.search.proofs.ebf.Sound.{initialised-good}
 use Rattle.search.proofs.ebf.Memory.{any-memory-solves}
-use Rattle.search.specs.declared.Leg.{Leg}
+use Rattle.search.specs.declared.PartialPath.{PartialPath}
 use Rattle.search.specs.declared.Reduced.{Reduced}
-use Rattle.network.specs.declared.Answer.{Answer}
-use Rattle.network.specs.declared.Answer.the-variants.{NoSolution}
-use Rattle.network.specs.Words.{Links}
-use Rattle.search.specs.Solver.{Sound, netIn, problemOf, unflagged, scaledOnly}
+use Rattle.network.specs.declared.SearchAnswer.{SearchAnswer}
+use Rattle.network.specs.declared.SearchAnswer.the-variants.{NoSolution}
+use Rattle.search.specs.Solver.{Flagged, netIn, problemOf, unflagged, scaledOnly}
 use Rattle.search.specs.ebf.OnTable.{Bounded}
-use Rattle.search.specs.Forward.{forwarded}
-use Rattle.search.specs.Forward.{grantOf}
-use Rattle.search.specs.Result.{answerOf, pathAfter}
+use Rattle.search.specs.Forward.{forwarded, grantOf}
+use Rattle.search.specs.Result.{searchAnswerOf, pathAfter}
 use Rattle.search.specs.ebf.Passed.{passed}
 use Rattle.search.proofs.ebf.Rows.{cells-below}
 use Rattle.search.proofs.ebf.Unflagged.{traced-unflagged}
@@ -36,30 +35,30 @@ use Rattle.search.proofs.Unflagged.{forwarded-unflagged}
 use Rattle.search.proofs.Forward.{follow-short, forward-links, forward-delay, forward-cost, forward-path}
 
 -- the ends that the table's words give are nodes
-pub net-ends : (n m : ℕ) (links usable : List ℕ) → Links n m links → Ends (netOf n m links usable)
+pub net-ends : (n m : ℕ) (links usable : List ℕ) → LinkTable n m links → Ends (netOf n m links usable)
 unfolding netOf
 net-ends n m links usable h = record { tails = h .words .from; heads = h .words .to }
 
--- the notes are the trail's, so the pass is the one along the trail, and an answer with its totals is the grant
-pub passes : (p : Reduced) (links scaled table : List ℕ) (s t which : ℕ) (path : List ℕ) {next : List ℕ} {w : Leg} {path₁ : List ℕ} {a : Answer}
+-- the notes are the trace's, so the pass is the one along the trace, and an answer with its totals is the grant
+pub passes : (p : Reduced) (links scaled table : List ℕ) (s t which : ℕ) (path : List ℕ) {next : List ℕ} {w : PartialPath} {path₁ : List ℕ} {a : SearchAnswer}
     → next ≡ traced (unflagged p links) (scaledOnly p scaled) table s t .1
     → (w, path₁) ≡ forwarded (unflagged p links) next s t path
     → a ≡ grantOf which w
     → (a ≡ grantOf which (passed p links scaled table s t path .0)) × (path₁ ≡ passed p links scaled table s t path .1)
 unfolding passed
-passes p links scaled table s t which path notes pass told =
+passes p links scaled table s t which path notes pass stated =
     let is = pass ∙ ap (λ (n : List ℕ). forwarded (unflagged p links) n s t path) notes in
-    (told ∙ ap (λ (z : Leg × List ℕ). grantOf which (z .0)) is, ap (λ (z : Leg × List ℕ). z .1) is)
+    (stated ∙ ap (λ (z : PartialPath × List ℕ). grantOf which (z .0)) is, ap (λ (z : PartialPath × List ℕ). z .1) is)
 
-module _ (p : Reduced) (links usable kept scaled : List ℕ) (s t : ℕ) (sound : Sound p links usable kept)
-    (s-low : s < p .nodes) (t-low : t < p .nodes) (l : List ℕ) (memory : 16384 ≤ length l) where
+module _ (p : Reduced) (links usable kept scaled : List ℕ) (s t : ℕ) (sound : Flagged p links usable kept)
+    (s-low : s < p .nodes) (t-low : t < p .nodes) (l : List ℕ) (memory : workWords ≤ length l) where
   abbrev g : Net
   g = netIn p links usable
 
   abbrev q : Problem
   q = problemOf p kept scaled
 
-  -- 16,384 words are enough for every table
+  -- work memory has room for every table
   room : Room g q l
   unfolding cells netOf problemOf
   room = omega (arith, cells-below (p .nodes) (p .x) (sound .prepared .table .nodes-most) (sound .prepared .x))
@@ -96,11 +95,11 @@ module _ (p : Reduced) (links usable kept scaled : List ℕ) (s t : ℕ) (sound 
 
       -- no solution: no word of the path buffer changes
       pub answers-none : (which : ℕ) (path : List ℕ) → p .bound < number l₂ at
-          → (NoSolution ≡ answerOf g (outcomeOf which (solve g q s t))) × (path ≡ pathAfter (outcomeOf which (solve g q s t)) path)
-      unfolding answerOf pathAfter
+          → (NoSolution ≡ searchAnswerOf g (outcomeOf which (solve g q s t))) × (path ≡ pathAfter (outcomeOf which (solve g q s t)) path)
+      unfolding searchAnswerOf pathAfter
       answers-none which path far = (simp (unsolved far), simp (unsolved far))
 
-      -- a solution: the pass along the trail's notes, which asks neither for flags nor for kept weights
+      -- a solution: the pass along the trace's notes, which asks neither for flags nor for kept weights
       module _ (path : List ℕ) (near : number l₂ at ≤ p .bound) where
         abbrev notes : List ℕ
         notes = traced g q l₂ s t .1
@@ -116,22 +115,22 @@ module _ (p : Reduced) (links usable kept scaled : List ℕ) (s t : ℕ) (sound 
         unfolding pathIn
         path-is = solved near
 
-        answer-is : (which : ℕ) → grantOf which (passed p links scaled l₂ s t path .0) ≡ answerOf g (outcomeOf which (solve g q s t))
-        unfolding answerOf
+        answer-is : (which : ℕ) → grantOf which (passed p links scaled l₂ s t path .0) ≡ searchAnswerOf g (outcomeOf which (solve g q s t))
+        unfolding searchAnswerOf
         answer-is which =
             let a = forward-delay g notes s t path in
             let b = forward-cost g notes s t path in
             let c = forward-links g notes s t path in
             simp (path-is, pass, a, b, c)
 
-        words-are : (which : ℕ) → 31 ≤ length path → passed p links scaled l₂ s t path .1 ≡ pathAfter (outcomeOf which (solve g q s t)) path
+        words-are : (which : ℕ) → pathWords ≤ length path → passed p links scaled l₂ s t path .1 ≡ pathAfter (outcomeOf which (solve g q s t)) path
         unfolding pathAfter netOf
         words-are which buffer =
             let fits : length links-found ≤ length path = omega (arith, follow-short g notes t (g .nodes - 1) s, sound .prepared .table .nodes-most) in
             simp (path-is, pass) (forward-path g notes s t path fits)
 
-        pub answers-path : (which : ℕ) → 31 ≤ length path → {a : Answer} {path₁ : List ℕ}
+        pub answers-path : (which : ℕ) → pathWords ≤ length path → {a : SearchAnswer} {path₁ : List ℕ}
             → a ≡ grantOf which (passed p links scaled l₂ s t path .0)
             → path₁ ≡ passed p links scaled l₂ s t path .1
-            → (a ≡ answerOf g (outcomeOf which (solve g q s t))) × (path₁ ≡ pathAfter (outcomeOf which (solve g q s t)) path)
-        answers-path which buffer told left = (told ∙ answer-is which, left ∙ words-are which buffer)
+            → (a ≡ searchAnswerOf g (outcomeOf which (solve g q s t))) × (path₁ ≡ pathAfter (outcomeOf which (solve g q s t)) path)
+        answers-path which buffer stated left = (stated ∙ answer-is which, left ∙ words-are which buffer)

@@ -8,11 +8,12 @@ use native.Mathlib.Nat.{le-trans}
 use native.Mathlib.Omega.{arith}
 use lib.ListN.{length, getD}
 use borrow.Author.Tests.{le-leb, lt-leb, le-ltb, lt-ltb, eq-eqb, ne-eqb}
+use Rattle.network.specs.Limits.{workWords}
 use Rattle.network.specs.Loops.{iter}
 use Rattle.network.specs.Net.{Net}
 use Rattle.network.specs.Problem.{Problem}
-use Rattle.search.specs.ebf.Table.{cell, cells, number, put, improved, relaxed, offered, column, round}
 use Rattle.network.proofs.Tests.{by-lt}
+use Rattle.search.specs.ebf.Table.{cell, cells, number, put, improved, relaxed, offered, column, round}
 use Rattle.search.proofs.ebf.Cells.{cell-inside}
 use Rattle.search.proofs.ebf.Relaxed.{offered-lower}
 use Rattle.search.proofs.ebf.Complete.{iter-lower, column-lower, round-lower}
@@ -21,7 +22,7 @@ use Rattle.search.proofs.ebf.Settled.{settled-more}
 use Rattle.network.specs.Words.{field, netOf}
 use Rattle.search.specs.declared.Hop.{Hop}
 use Rattle.search.specs.declared.Reduced.{Reduced}
-use Rattle.search.specs.Solver.{Sound, netIn, unflagged, problemOf}
+use Rattle.search.specs.Solver.{Flagged, netIn, unflagged, problemOf}
 use Rattle.search.specs.ebf.OnTable.{Bounded}
 use Rattle.search.specs.ebf.Relaxing.{Hopped, Own}
 use Rattle.search.proofs.ebf.Rows.{cells-below}
@@ -107,8 +108,8 @@ module _ (n m : ℕ) (links usable : List ℕ) (i : ℕ) where
   flag-off e = ne-eqb _ _ e
 
 -- one more link of column k was tried, and the links tried before it stay settled
-pub settled-on : (p : Reduced) (links usable kept scaled : List ℕ) → Sound p links usable kept → (k i : ℕ) → i < p .links
-    → (l l' : List ℕ) → 16384 ≤ length l
+pub settled-on : (p : Reduced) (links usable kept scaled : List ℕ) → Flagged p links usable kept → (k i : ℕ) → i < p .links
+    → (l l' : List ℕ) → workWords ≤ length l
     → l' ≡ offered (netIn p links usable) (problemOf p kept scaled) k i l
     → (getD scaled i 0 ≡ 0 → l ≡ l')
     → ((j : ℕ) → j < i → Settled (netIn p links usable) (problemOf p kept scaled) k j l)
@@ -125,6 +126,6 @@ settled-on p links usable kept scaled sound k i low l l' room turn own before =
     ))
     before
 
--- nothing was changed: the relaxation gives on what it was told
+-- nothing was changed: the relaxation gives on what it was handed
 pub own-same : (again : Bool) (step : ℕ) (l : List ℕ) → again ≡ false → Own again step l l
-own-same again step l e = record { words = λ _. refl; told = e }
+own-same again step l e = record { words = λ _. refl; handed = e }

@@ -1,4 +1,4 @@
--- The trail of a good table is a walk from the source to the target within the numbers of the table, and its notes are
+-- The trace of a good table is a walk from the source to the target within the numbers of the table, and its notes are
 -- the walk's notes: a trace passes no cell twice, so the budget of links is enough, and each turn follows one link of it.
 -- Assumes nothing.
 use mathlib.Core.Path.{_≡_, refl, sym, ap, subst, _∙_}
@@ -15,14 +15,14 @@ use Rattle.network.specs.Problem.{Problem}
 use Rattle.network.specs.Cut.{notes}
 use Rattle.network.proofs.Few.{few}
 use Rattle.network.proofs.Loops.{iter-none, iter-stays, iter-first}
-use Rattle.search.specs.declared.Trail.{Trail}
+use Rattle.search.specs.declared.TracePlace.{TracePlace}
 use Rattle.search.specs.ebf.Table.{cell, cells}
-use Rattle.search.specs.ebf.Trace.{stepBack, trailBack, traced}
+use Rattle.search.specs.ebf.Trace.{stepBack, placeBack, traced}
 use Rattle.search.proofs.ebf.Cells.{cell-inside, cell-node, cell-column}
 use Rattle.search.proofs.ebf.Good.{at, via, Step, Trace, Good}
 
--- the trail at v and k, after the links of p
-abbrev pub place : Net → ℕ → ℕ → List ℕ → Trail × List ℕ
+-- the trace at v and k, after the links of p
+abbrev pub place : Net → ℕ → ℕ → List ℕ → TracePlace × List ℕ
 place g v k p = (record { node = v; column = k; left = notes g p .left }, notes g p .next)
 
 module _ (g : Net) (q : Problem) (s : ℕ) (l : List ℕ) where
@@ -86,15 +86,15 @@ module _ (g : Net) (q : Problem) (s : ℕ) (l : List ℕ) where
       omega (arith, length-passed n v k, few (cells (g .nodes) (q .x)) (passed n v k) (passed-distinct n v k h tr) (passed-inside ends n v k h tr))
 
   -- ---- the turns
-  -- at the source the trail stays
-  pub step-home : (st : Trail × List ℕ) → st .0 .node ≡ s → stepBack g q l s st ≡ st
+  -- at the source the trace stays
+  pub step-home : (st : TracePlace × List ℕ) → st .0 .node ≡ s → stepBack g q l s st ≡ st
   unfolding stepBack
   step-home st e = simp (eq-eqb _ _ e)
 
   -- elsewhere it takes the link kept there
   pub step-on : (v k : ℕ) (p : List ℕ) → (v ≡ s → ⊥) → Step g q l v k (via q l v k)
       → stepBack g q l s (place g v k p) ≡ place g (before v k) (left v k) (via q l v k ∷ p)
-  unfolding stepBack trailBack
+  unfolding stepBack placeBack
   step-on v k p other st = simp (ne-eqb v s other, lt-leb _ _ (st .listed), le-ltb _ _ (st .room))
 
   -- what the turns along a trace from v and k give, where the links of p led on to t
@@ -104,22 +104,22 @@ module _ (g : Net) (q : Problem) (s : ℕ) (l : List ℕ) where
     pub scaled : sum (q .scaledBy) r ≤ k + sum (q .scaledBy) p
     pub noted : next ≡ notes g r .next
 
-  trailed : (n d t v k : ℕ) (p : List ℕ) → Trace g q s l n v k → Walk g v t p
+  traced-back : (n d t v k : ℕ) (p : List ℕ) → Trace g q s l n v k → Walk g v t p
       → (r : List ℕ) × Trailed t v k p (iter (λ _. stepBack g q l s) (d + n) (place g v k p) .1) r
-  trailed zero d t v k p tr w = (
+  traced-back zero d t v k p tr w = (
     p,
     record {
       walk = rw (← tr) w;
       kept = omega arith;
       scaled = omega arith;
-      noted = ap (λ (st : Trail × List ℕ). st .1)
+      noted = ap (λ (st : TracePlace × List ℕ). st .1)
           (sym (iter-stays (λ _. stepBack g q l s) 0 d (place g v k p) (place g v k p) (iter-none _ _) (λ i. step-home (place g v k p) tr)));
     },
   )
-  trailed (suc n) d t v k p tr w =
+  traced-back (suc n) d t v k p tr w =
       let i : ℕ = via q l v k in
       let onward : Walk g (g .tail i) t (i ∷ p) = (tr .1 .listed, tr .1 .usable, refl, rw (tr .1 .leads) w) in
-      let rest = trailed n d t (g .tail i) (k - q .scaledBy i) (i ∷ p) (tr .2) onward in
+      let rest = traced-back n d t (g .tail i) (k - q .scaledBy i) (i ∷ p) (tr .2) onward in
       let turn : iter (λ _. stepBack g q l s) (d + suc n) (place g v k p) ≡ iter (λ _. stepBack g q l s) (d + n) (place g (before v k) (left v k) (i ∷ p)) =
       rw add-suc (iter-first (stepBack g q l s) (d + n) (place g v k p)) ∙ ap (iter (λ _. stepBack g q l s) (d + n)) (step-on v k p (tr .0) (tr .1)) in (
         rest .0,
@@ -127,27 +127,27 @@ module _ (g : Net) (q : Problem) (s : ℕ) (l : List ℕ) where
           walk = rest .1 .walk;
           kept = omega (arith, rest .1 .kept, tr .1 .falls);
           scaled = omega (arith, rest .1 .scaled, tr .1 .room);
-          noted = ap (λ (st : Trail × List ℕ). st .1) turn ∙ rest .1 .noted;
+          noted = ap (λ (st : TracePlace × List ℕ). st .1) turn ∙ rest .1 .noted;
         },
       )
 
-  -- ---- the whole trail: a walk to t within the table's number and x, and its notes
+  -- ---- the whole trace: a walk to t within the table's number and x, and its notes
   pub record IsTrail (t : ℕ) (p : List ℕ) : Type 0 where
     pub walk : Walk g s t p
     pub kept : sum (q .kept) p ≤ at q l t (q .x)
     pub scaled : sum (q .scaledBy) p ≤ q .x
     pub noted : traced g q l s t .1 ≡ notes g p .next
 
-pub trail-walk : (g : Net) (q : Problem) → Ends g → (s : ℕ) (l : List ℕ) → Good g q s l → (t : ℕ) → t < g .nodes
+pub trace-walk : (g : Net) (q : Problem) → Ends g → (s : ℕ) (l : List ℕ) → Good g q s l → (t : ℕ) → t < g .nodes
     → at q l t (q .x) ≤ q .bound
     → (p : List ℕ) × IsTrail g q s l t p
 unfolding traced
-trail-walk g q ends s l good t t-low within =
+trace-walk g q ends s l good t t-low within =
     let tr = good .traced t (q .x) t-low (le-refl _) within in
     let n : ℕ = tr .0 in
     let all : ℕ = cells (g .nodes) (q .x) in
     let enough : all - n + n ≡ all = omega (arith, short g q s l ends n t (q .x) (le-refl _) (tr .1)) in
-    let r = trailed g q s l n (all - n) t t (q .x) [] (tr .1) refl in (
+    let r = traced-back g q s l n (all - n) t t (q .x) [] (tr .1) refl in (
       r .0,
       record {
         walk = r .1 .walk;

@@ -1,4 +1,4 @@
--- One turn of the trace over plain values, away from s: the trail stays where the kept word is no link and where the
+-- One turn of the trace over plain values, away from s: the trace stays where the kept word is no link and where the
 -- link's scaled weight is more than is left, else it goes back along the link. With `step-home` of Trace.antt, at s, these are
 -- the four ways through the test of `stepBack`.
 -- Assumes nothing.
@@ -10,15 +10,15 @@ use borrow.Author.Tests.{ne-eqb, le-leb, lt-leb, lt-ltb, le-ltb}
 use Rattle.network.specs.NodeSet.{inserted}
 use Rattle.network.specs.Words.{field, netOf}
 use Rattle.network.specs.Cut.{noted}
-use Rattle.search.specs.declared.Trail.{Trail}
+use Rattle.search.specs.declared.TracePlace.{TracePlace}
 use Rattle.search.specs.ebf.Table.{cell, linkAt}
-use Rattle.search.specs.ebf.Trace.{stepBack, trailBack}
+use Rattle.search.specs.ebf.Trace.{stepBack, placeBack}
 use Rattle.search.specs.declared.Reduced.{Reduced}
 use Rattle.search.specs.Solver.{problemOf, unflagged, scaledOnly}
 
-module _ (p : Reduced) (links scaled work : List ℕ) (s : ℕ) (w : Trail) (next : List ℕ) where
+module _ (p : Reduced) (links scaled work : List ℕ) (s : ℕ) (w : TracePlace) (next : List ℕ) where
   -- the turn as the code's contract has it
-  abbrev Turned : Trail → List ℕ → Type 0
+  abbrev Turned : TracePlace → List ℕ → Type 0
   Turned r after = (r, after) ≡ stepBack (unflagged p links) (scaledOnly p scaled) work s (w, next)
 
   module _ (i : ℕ) (away : w .node ≡ s → ⊥) (kept-here : i ≡ linkAt work (cell (p .x) (w .node) (w .column))) where
@@ -33,10 +33,10 @@ module _ (p : Reduced) (links scaled work : List ℕ) (s : ℕ) (w : Trail) (nex
       unfolding stepBack netOf problemOf
       stays-spent h = simp (ne-eqb _ _ away, ← kept-here, lt-leb _ _ listed, ← weighs, lt-ltb _ _ h)
 
-      -- the trail goes back
+      -- the trace goes back
       pub goes-back : (tail left : ℕ) (after : List ℕ) → step ≤ w .column → tail ≡ field links i 0 → left ≡ inserted (w .left) tail
           → after ≡ noted (w .left) tail i next
           → Turned (record { node = tail; column = w .column - step; left = left }) after
-      unfolding stepBack trailBack netOf problemOf
+      unfolding stepBack placeBack netOf problemOf
       goes-back tail left after h from into notes =
           simp (ne-eqb _ _ away, ← kept-here, lt-leb _ _ listed, ← weighs, le-ltb _ _ h, ← from, into, notes)

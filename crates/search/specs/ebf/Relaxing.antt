@@ -5,6 +5,7 @@ use mathlib.Core.Path.{_≡_}
 use mathlib.Core.Bool.{Bool, false}
 use mathlib.Core.List.{List}
 use lib.ListN.{getD}
+use Rattle.network.specs.Limits.{mostNodes, mostWeight}
 use Rattle.network.specs.Words.{field}
 use Rattle.search.specs.declared.Hop.{Hop}
 
@@ -14,13 +15,13 @@ pub record Hopped (links kept scaled : List ℕ) (i : ℕ) (h : Hop) : Type 0 wh
   pub head : h .head ≡ field links i 1
   pub weight : h .weight ≡ getD kept i 0
   pub step : h .step ≡ getD scaled i 0
-  pub tail-low : h .tail < 32
-  pub head-low : h .head < 32
-  pub light : h .weight ≤ 1000000
+  pub tail-low : h .tail < mostNodes
+  pub head-low : h .head < mostNodes
+  pub light : h .weight ≤ mostWeight
 
--- What a relaxation that says false tells, where the link's scaled weight is `step` and it was told `again` before: the
+-- What a relaxation that says false tells, where the link's scaled weight is `step` and it was handed `again` before: the
 -- words of the column that it was tried from are as they were, since a link of scaled weight 0 changed nothing, and it
--- was told false
+-- was handed false
 pub record Own (again : Bool) (step : ℕ) (before after : List ℕ) : Type 0 where
   pub words : step ≡ 0 → before ≡ after
-  pub told : again ≡ false
+  pub handed : again ≡ false

@@ -6,6 +6,7 @@ use mathlib.Core.Bool.{Bool, cond, _&&_}
 use mathlib.Core.List.{List}
 use lib.Dec.{ltb, leb}
 use lib.ListN.{getD, set}
+use Rattle.network.specs.Limits.{mostNodes, mostX}
 use Rattle.network.specs.Loops.{iter}
 use Rattle.network.specs.Net.{Net}
 use Rattle.network.specs.Problem.{Problem}
@@ -16,6 +17,10 @@ cell x v k = v * (x + 1) + k
 
 unfoldable pub cells : ℕ → ℕ → ℕ
 cells n x = n * (x + 1)
+
+-- and at most
+abbrev pub mostCells : ℕ
+mostCells = mostNodes * (mostX + 1)
 
 -- a cell's number d[v, k], and the link by which v was reached there, in the words of work memory
 abbrev pub number : List ℕ → ℕ → ℕ

@@ -9,11 +9,14 @@ use Rattle.worked_cases.specs.Lines.{caseLines}
 use Rattle.worked_cases.proofs.write_cases.Statement.{statement}
 use Rattle.worked_cases.proofs.write_cases.Tie as tie
 
+slice-aggregate-put-cases : tie.Need-slice-aggregate-put-cases
+slice-aggregate-put-cases c = search needs
+
 put-cases-requires : tie.Need-put-cases-requires
 put-cases-requires c κs = search needs
 
 slice-aggregate-write-text : tie.Need-slice-aggregate-write-text
-slice-aggregate-write-text c = sym (ap length (c .before .put-cases .ensures .1) ∙ length-sets _ 0 caseLines)
+slice-aggregate-write-text c = sym (ap length (c .before .before .put-cases .ensures .1) ∙ length-sets _ 0 caseLines)
 
 write-text-requires : tie.Need-write-text-requires
 write-text-requires c κs = omega (arith, slice-aggregate-write-text c)
@@ -23,4 +26,10 @@ returns c = search needs
 
 pub write-cases-spec : {M : Type 1} → statement M
 write-cases-spec =
-    tie.close (tie.spec put-cases-requires slice-aggregate-write-text write-text-requires returns)
+    tie.close
+    (tie.spec
+    slice-aggregate-put-cases
+    put-cases-requires
+    slice-aggregate-write-text
+    write-text-requires
+    returns)

@@ -12,7 +12,7 @@ use lib.ListN.{length}
 use Rattle.area.proofs.ReadCases.{formed-long}
 use Rattle.area.proofs.CircuitCases.{part-length}
 use Rattle.network.specs.declared.Request.{Request}
-use Rattle.rules.specs.Calls.{sought, admission}
+use Rattle.rules.specs.Calls.{searched, admission}
 use Rattle.rules.specs.Meaning.{booksIn}
 use Rattle.rules.proofs.RequestAnswer.{the-type}
 use Rattle.rules.proofs.CallCases.{Passed, all-passed, admission-refused, fails-11, fails-12, searches}
@@ -45,19 +45,19 @@ past-eight : (passed : tie.Else1) → Passed (areaAt passed) (workAt passed) (le
 past-eight passed = all-passed _ _ _ _ (sym (passed .if1 .left) ∙ passed .before .refusal .ensures)
 
 abbrev passedAt : tie.Else3 → tie.Else1
-passedAt counted = counted .before .before .before .before .before
+passedAt counted = counted .before .before .before .before .before .before
 
 -- past 12, the search's reply is the admission's
 abbrev Searches : tie.Else1 → Type 0
 Searches passed =
-    sought (booksIn (areaAt passed)) (requestAt passed)
+    searched (booksIn (areaAt passed)) (requestAt passed)
     ≡ admission (areaAt passed) (workAt passed) (length (bufferAt passed)) (circuitAt passed) (requestAt passed)
 
 past-twelve : (counted : tie.Else3) → Searches (passedAt counted)
 past-twelve counted =
-    let numbered = counted .before .before in
+    let numbered = counted .before .before .before in
     searches _ _ _ _ _ (past-eight (passedAt counted)) (sym (numbered .before .number-fits .ensures) ∙ not-false _ (numbered .if2 .left))
-    (omega (arith, counted .if3 .left))
+    (omega (arith, counted .before .wide .ensures, counted .if3 .left))
 
 check-requires : tie.Need-check-requires
 check-requires c κs = search needs
@@ -89,24 +89,27 @@ returns-2 c =
     refusal-admitted (areaAt passed) (workAt passed) (bufferAt passed) (circuitAt passed) (requestAt passed) 11
     (fails-11 _ _ _ _ _ (past-eight passed) (sym (c .before .number-fits .ensures) ∙ not-true _ (c .if2 .taken)))
 
-slice-read-if3 : tie.Need-slice-read-if3
-slice-read-if3 c =
+slice-read-wide : tie.Need-slice-read-wide
+slice-read-wide c =
     let passed = c .before .before .before .before in omega (arith, formed-long (areaAt passed) (past-eight passed .formed))
+
+wide-requires : tie.Need-wide-requires
+wide-requires c κs = search needs
 
 same-length-3 : tie.Need-same-length-3
 same-length-3 c = search needs
 
 returns-3 : tie.Need-returns-3
 returns-3 c =
-    let numbered = c .before .before in
+    let numbered = c .before .before .before in
     let passed = numbered .before .before .before in
     refusal-admitted (areaAt passed) (workAt passed) (bufferAt passed) (circuitAt passed) (requestAt passed) 12
     (fails-12 _ _ _ _ _ (past-eight passed) (sym (numbered .before .number-fits .ensures) ∙ not-false _ (numbered .if2 .left))
-    (c .if3 .taken))
+    (omega (arith, c .before .wide .ensures, c .if3 .taken)))
 
-seek-requires : tie.Need-seek-requires
-seek-requires c κs =
-    let passed = c .before .before .before .before .before .before .before .before .before .before in
+find-path-requires : tie.Need-find-path-requires
+find-path-requires c κs =
+    let passed = c .before .before .before .before .before .before .before .before .before .before .before in
     let p = past-eight passed in
     record {
       formed = p .formed;
@@ -138,13 +141,13 @@ returns-4 c =
     let passed = passedAt counted in
     let w = areaAt passed in
     let r = requestAt passed in
-    let found = answered .seek .ensures in
+    let found = answered .find-path .ensures in
     let other = other-case (tagOf the-type) (λ g. refl) _ (c .before .match .keys2) in
-    admitted-as w (workAt passed) (bufferAt passed) (circuitAt passed) r (sought (booksIn w) r) (past-twelve counted) _ (found .0) _ (found .1) w
-    (unstored w (circuitAt passed) (r .units) (sought (booksIn w) r) (λ g e. other g (found .0 ∙ e)))
+    admitted-as w (workAt passed) (bufferAt passed) (circuitAt passed) r (searched (booksIn w) r) (past-twelve counted) _ (found .0) _ (found .1) w
+    (unstored w (circuitAt passed) (r .units) (searched (booksIn w) r) (λ g e. other g (found .0 ∙ e)))
 
-wide-requires : tie.Need-wide-requires
-wide-requires c κs = search needs
+wide-requires-2 : tie.Need-wide-requires-2
+wide-requires-2 c κs = search needs
 
 part-requires : tie.Need-part-requires
 part-requires c κs =
@@ -152,8 +155,8 @@ part-requires c κs =
     let answered = granted .before .before .before .before .before .before in
     let passed = passedAt (answered .before .before .before .before .before .before) in
     let p = past-eight passed in
-    let short = granted-short (areaAt passed) (requestAt passed) (p .formed) (p .request) _ (sym (answered .seek .ensures .0) ∙ granted .answer .given .1) in
-    omega (arith, short, c .wide .ensures, p .buffer, answered .seek .kept .1)
+    let short = granted-short (areaAt passed) (requestAt passed) (p .formed) (p .request) _ (sym (answered .find-path .ensures .0) ∙ granted .answer .given .1) in
+    omega (arith, short, c .wide2 .ensures, p .buffer, answered .find-path .kept .1)
 
 add-requires : tie.Need-add-requires
 add-requires c κs =
@@ -162,9 +165,9 @@ add-requires c κs =
     let counted = answered .before .before .before .before .before .before in
     let passed = passedAt counted in
     let p = past-eight passed in
-    let short = granted-short (areaAt passed) (requestAt passed) (p .formed) (p .request) _ (sym (answered .seek .ensures .0) ∙ granted .answer .given .1) in
-    let count = part-length (answered .seek .last .1 .1 .1 .0) 0 (c .before .wide .result) (c .part .ensures) in
-    (formed-long (areaAt passed) (p .formed), (counted .if3 .left, omega (arith, short, c .before .wide .ensures, count)))
+    let short = granted-short (areaAt passed) (requestAt passed) (p .formed) (p .request) _ (sym (answered .find-path .ensures .0) ∙ granted .answer .given .1) in
+    let count = part-length (answered .find-path .last .1 .1 .1 .0) 0 (c .before .wide2 .result) (c .part .ensures) in
+    (formed-long (areaAt passed) (p .formed), (omega (arith, counted .before .wide .ensures, counted .if3 .left), omega (arith, short, c .before .wide2 .ensures, count)))
 
 same-length-7 : tie.Need-same-length-7
 same-length-7 c = search needs
@@ -184,14 +187,14 @@ returns-5 c =
     let passed = passedAt counted in
     let w = areaAt passed in
     let r = requestAt passed in
-    let found = answered .seek .ensures in
+    let found = answered .find-path .ensures in
     let grant = granted .answer .given .1 in
     let booked-so =
-    stored-as w (circuitAt passed) (r .units) _ (bufferAt passed) (sought (booksIn w) r) (sym (found .0) ∙ grant) _ (found .1) _
-    (lent .before .wide .ensures)
+    stored-as w (circuitAt passed) (r .units) _ (bufferAt passed) (searched (booksIn w) r) (sym (found .0) ∙ grant) _ (found .1) _
+    (lent .before .wide2 .ensures)
     _
     (lent .part .ensures) in
-    admitted-as w (workAt passed) (bufferAt passed) (circuitAt passed) r (sought (booksIn w) r) (past-twelve counted) _ (sym grant ∙ found .0) _ (found .1) _
+    admitted-as w (workAt passed) (bufferAt passed) (circuitAt passed) r (searched (booksIn w) r) (past-twelve counted) _ (sym grant ∙ found .0) _ (found .1) _
     (c .before .before .add .ensures ∙ booked-so)
 
 pub admit-spec : {M : Type 1} → statement M
@@ -205,17 +208,18 @@ admit-spec =
     number-fits-requires
     same-length-2
     returns-2
-    slice-read-if3
+    slice-read-wide
+    wide-requires
     same-length-3
     returns-3
-    seek-requires
+    find-path-requires
     enum-known-answer
     enum-told
     same-length-4
     same-length-5
     same-length-6
     returns-4
-    wide-requires
+    wide-requires-2
     part-requires
     add-requires
     same-length-7

@@ -75,13 +75,13 @@ same-length-2 c = search needs
 
 returns-2 : tie.Need-returns-2
 returns-2 c =
-    let sought = c .before in
-    let counted = sought .before .before in
+    let searched = c .before in
+    let counted = searched .before .before in
     let at = counted .before .before in
     let checked = at .before .before in
     let a = checked .before .before .before .args in
     let formed = sym (checked .check .ensures .0) ∙ not-false _ (at .if1 .left) in
-    unheld (a .area .now) (a .number) formed (counted .wide .result) (sought .find .result) (counted .wide .ensures) (sought .find .ensures) (c .if2 .taken)
+    unheld (a .area .now) (a .number) formed (counted .wide .result) (searched .find .result) (counted .wide .ensures) (searched .find .ensures) (c .if2 .taken)
 
 remove-requires : tie.Need-remove-requires
 remove-requires c κs =
@@ -98,13 +98,13 @@ returns-3 : tie.Need-returns-3
 returns-3 c =
     let stored = c .before .before in
     let left = stored .before .before in
-    let sought = left .before in
-    let counted = sought .before .before in
+    let searched = left .before in
+    let counted = searched .before .before in
     let at = counted .before .before in
     let checked = at .before .before in
     let a = checked .before .before .before .args in
     let formed = sym (checked .check .ensures .0) ∙ not-false _ (at .if1 .left) in
-    held (a .area .now) (a .number) formed (counted .wide .result) (sought .find .result) (counted .wide .ensures) (sought .find .ensures) (stored .remove .last .0) (left .if2 .left)
+    held (a .area .now) (a .number) formed (counted .wide .result) (searched .find .result) (counted .wide .ensures) (searched .find .ensures) (stored .remove .last .0) (left .if2 .left)
     (stored .remove .ensures)
 
 pub release-spec : {M : Type 1} → statement M

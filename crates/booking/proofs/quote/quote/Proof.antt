@@ -5,7 +5,7 @@ use mathlib.Core.Path.{sym, _∙_}
 use mathlib.Core.List.{List}
 use borrow.Author.Needs.{needs}
 use lib.ListN.{length}
-use Rattle.rules.specs.Calls.{sought}
+use Rattle.rules.specs.Calls.{searched}
 use Rattle.rules.specs.Meaning.{booksIn}
 use Rattle.rules.proofs.CallCases.{Passed, all-passed, quote-refused, quote-passed}
 use Rattle.rules.proofs.Granting.{quoted-as, refusal-quoted}
@@ -43,8 +43,8 @@ returns c =
     let l = start .args .path .now in
     refusal-quoted w work l (start .args .r) _ (quote-refused w work (length l) (start .args .r) _ (c .before .refusal .ensures) (c .if1 .taken))
 
-seek-requires : tie.Need-seek-requires
-seek-requires c κs =
+find-path-requires : tie.Need-find-path-requires
+find-path-requires c κs =
     let passed = c .before .before .before .before in
     let p = past-eight passed in
     record {
@@ -66,8 +66,8 @@ returns-2 c =
     let answered = c .before .before .before .before in
     let passed = answered .before .before .before .before .before in
     let r = startOf passed .args .r in
-    let found = answered .seek .ensures in
-    quoted-as (areaAt passed) (workAt passed) (bufferAt passed) r (sought (booksIn (areaAt passed)) r) (quote-passed _ _ _ _ (past-eight passed)) _
+    let found = answered .find-path .ensures in
+    quoted-as (areaAt passed) (workAt passed) (bufferAt passed) r (searched (booksIn (areaAt passed)) r) (quote-passed _ _ _ _ (past-eight passed)) _
     (found .0) _ (found .1)
 
 pub quote-spec : {M : Type 1} → statement M
@@ -77,7 +77,7 @@ quote-spec =
     check-requires
     refusal-requires
     returns
-    seek-requires
+    find-path-requires
     same-length
     same-length-2
     returns-2)

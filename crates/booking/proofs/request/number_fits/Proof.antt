@@ -9,8 +9,9 @@ use lib.Dec.{eqb}
 use lib.ListN.{getD}
 use borrow.Author.Needs.{needs}
 use borrow.Author.Tests.{not-true, not-false}
+use Rattle.network.specs.Ranges.{inRange}
+use Rattle.area.specs.Layout.{leastNumber, mostNumber}
 use Rattle.area.specs.Held.{foundAt}
-use Rattle.area.specs.Formed.{inRange}
 use Rattle.area.proofs.ReadCases.{formed-long, formed-held}
 use Rattle.rules.specs.Calls.{numberFits}
 use Rattle.rules.specs.Meaning.{booksIn}
@@ -19,7 +20,7 @@ use Rattle.booking.proofs.request.number_fits.Statement.{statement}
 use Rattle.booking.proofs.request.number_fits.Tie as tie
 
 -- a number in its range fits where the search for it comes to the end
-found-decides : (w : List ℕ) (k h j : ℕ) → inRange 1 65535 k ≡ true → h ≡ getD w 2 0 → j ≡ foundAt w h k → eqb j h ≡ numberFits (booksIn w) k
+found-decides : (w : List ℕ) (k h j : ℕ) → inRange leastNumber mostNumber k ≡ true → h ≡ getD w 2 0 → j ≡ foundAt w h k → eqb j h ≡ numberFits (booksIn w) k
 found-decides w k h j range count found = rw (found, count) (number-left w k range)
 
 in-range-requires : tie.Need-in-range-requires

@@ -20,7 +20,7 @@ abbrev μ-loop : tie.MeasureT-loop
 μ-loop text₀ area n work₀ at₀ k₀ text work at k = 6 - k
 
 loop-holds : tie.Need-loop-holds Inv-loop μ-loop
-loop-holds c = let a = c .args in (lines-none (a .area .now) (a .text .now) (a .n), search needs, search needs, search needs)
+loop-holds c = let a = c .before .args in (lines-none (a .area .now) (a .text .now) (a .n), search needs, search needs, search needs)
 
 put-class-requires : tie.Need-put-class-requires Inv-loop μ-loop
 put-class-requires c κs = search needs
@@ -35,13 +35,13 @@ loop-again : tie.Need-loop-again Inv-loop μ-loop
 loop-again c =
     let turn = c .before .before .before .before in
     let l = turn .loop in
-    let a = turn .before .args in
+    let a = turn .before .before .args in
     (lines-turn (a .area .now) l.text _ _ (a .n) l.at _ _ l.k (omega arith) (c .put-class .ensures) (l.inv .0), search needs, search needs, search needs)
 
 returns : tie.Need-returns Inv-loop μ-loop
 returns c =
     let l = c .before .loop in
-    let a = c .before .before .args in
+    let a = c .before .before .before .args in
     let e = lines-end (a .area .now) l.text _ (a .n) l.at _ l.k (omega arith) (l.inv .0) in
     ((e .0, omega arith), e .1)
 

@@ -5,6 +5,7 @@ use native.Mathlib.Omega.{arith}
 use borrow.Author.Needs.{needs}
 use lib.Seq.{length-take-le}
 use lib.ListN.{length}
+use Rattle.network.specs.Limits.{workWords}
 use Rattle.class_format.proofs.LineBytes.{put-as}
 use Rattle.class_format.proofs.Quoted.{line-of-quote, reply-refused, reply-granted}
 use Rattle.class_quotes.proofs.lines.put_quote.Statement.{statement}
@@ -33,10 +34,10 @@ wide-requires c κs = search needs
 
 array-share-prefix-path : tie.Need-array-share-prefix-path
 array-share-prefix-path c =
-    let told = c .before .before .before in
-    let quoted = told .before .before .before in
+    let stated = c .before .before .before in
+    let quoted = stated .before .before .before in
     let k = quoted .before .before .before .before .before .args .class in
-    reply-granted k _ _ _ _ (c .before .wide .ensures) _ (sym (told .a2 .given .1) ∙ quoted .quote .ensures .0) (quoted .quote .ensures .1 .0) .0
+    reply-granted k _ _ _ _ (c .before .wide .ensures) _ (sym (stated .a2 .given .1) ∙ quoted .quote .ensures .0) (quoted .quote .ensures .1 .0) .0
 
 slice-aggregate-put-granted : tie.Need-slice-aggregate-put-granted
 slice-aggregate-put-granted c = sym (length-take-le _ _ (array-share-prefix-path (c .before)))
@@ -47,26 +48,26 @@ put-granted-requires c κs =
 
 returns : tie.Need-returns
 returns c =
-    let told = c .before .before .before in
-    let quoted = told .before .before .before in
+    let stated = c .before .before .before in
+    let quoted = stated .before .before .before in
     let asked = quoted .before in
     let a = asked .before .before .before .before .args in
-    let work : length (a .work .now) ≡ 16384 = search needs in
+    let work : length (a .work .now) ≡ workWords = search needs in
     put-as (a .text .now) _ _ _ (a .at) _
     (line-of-quote (a .area .now) (a .n) (a .class) _ _ (a .s) _ work refl (asked .request .ensures)
-    ∙ reply-refused (a .class) _ _ (sym (told .a .given .1) ∙ quoted .quote .ensures .0))
+    ∙ reply-refused (a .class) _ _ (sym (stated .a .given .1) ∙ quoted .quote .ensures .0))
     (c .put-refused .ensures)
 
 returns-2 : tie.Need-returns-2
 returns-2 c =
-    let told = c .before .before .before .before .before in
-    let quoted = told .before .before .before in
+    let stated = c .before .before .before .before .before in
+    let quoted = stated .before .before .before in
     let asked = quoted .before in
     let a = asked .before .before .before .before .args in
-    let work : length (a .work .now) ≡ 16384 = search needs in
+    let work : length (a .work .now) ≡ workWords = search needs in
     put-as (a .text .now) _ _ _ (a .at) _
     (line-of-quote (a .area .now) (a .n) (a .class) _ _ (a .s) _ work refl (asked .request .ensures)
-    ∙ reply-granted (a .class) _ _ _ _ (c .before .before .before .wide .ensures) _ (sym (told .a2 .given .1) ∙ quoted .quote .ensures .0) (quoted .quote .ensures .1 .0) .1)
+    ∙ reply-granted (a .class) _ _ _ _ (c .before .before .before .wide .ensures) _ (sym (stated .a2 .given .1) ∙ quoted .quote .ensures .0) (quoted .quote .ensures .1 .0) .1)
     (c .put-granted .ensures)
 
 pub put-quote-spec : {M : Type 1} → statement M

@@ -33,10 +33,10 @@ mul-end c = search needs
 
 array-share-prefix-table : tie.Need-array-share-prefix-table
 array-share-prefix-table c =
-    let told = c .before .before .before in
-    let read = told .before .before .before in
+    let stated = c .before .before .before in
+    let read = stated .before .before .before in
     let a = read .before .before .before .args in
-    omega (arith, table-fits (a .file .now) _ _ _ _ (c .before .wide .ensures) (sym (told .reading2 .given .1) ∙ read .read .ensures .0) (read .read .ensures .1))
+    omega (arith, table-fits (a .file .now) _ _ _ _ (c .before .wide .ensures) (sym (stated .reading2 .given .1) ∙ read .read .ensures .0) (read .read .ensures .1))
 
 slice-aggregate-put-quotes : tie.Need-slice-aggregate-put-quotes
 slice-aggregate-put-quotes c = sym (length-take-le _ _ (array-share-prefix-table (c .before)))
@@ -46,18 +46,18 @@ put-quotes-requires c κs = search needs
 
 returns : tie.Need-returns
 returns c =
-    let told = c .before .before .before .before in
-    let read = told .before .before .before in
+    let stated = c .before .before .before .before in
+    let read = stated .before .before .before in
     let a = read .before .before .before .args in
-    all-as (a .text .now) _ _ _ _ (file-refused (a .file .now) _ (sym (told .reading .given .1) ∙ read .read .ensures .0)) (c .put-refusal .ensures)
+    all-as (a .text .now) _ _ _ _ (file-refused (a .file .now) _ (sym (stated .reading .given .1) ∙ read .read .ensures .0)) (c .put-refusal .ensures)
 
 returns-2 : tie.Need-returns-2
 returns-2 c =
     let sized = c .before .before .before in
-    let told = sized .before .before in
-    let read = told .before .before .before in
+    let stated = sized .before .before in
+    let read = stated .before .before .before in
     let a = read .before .before .before .args in
-    let said = sym (told .reading2 .given .1) ∙ read .read .ensures .0 in
+    let said = sym (stated .reading2 .given .1) ∙ read .read .ensures .0 in
     all-as (a .text .now) _ _ _ _
     (file-read (a .file .now) _ said ∙ ap (loadOutput _) (sym (table-front (a .file .now) _ _ _ _ (sized .wide .ensures) said (read .read .ensures .1))))
     (c .put-quotes .ensures)

@@ -26,30 +26,33 @@ put-refusal-requires c κs = search needs
 enum-told : tie.Need-enum-told
 enum-told c = search needs
 
+slice-aggregate-put-lines : tie.Need-slice-aggregate-put-lines
+slice-aggregate-put-lines c = search needs
+
 put-lines-requires : tie.Need-put-lines-requires
 unfolding blank
 put-lines-requires c κs =
-    let told = c .before .before in
-    let load = told .before .before .before in
+    let stated = c .before .before in
+    let load = stated .before .before .before in
     let a = load .before .before .before .args in
-    some-nodes (a .n) (a .links .now) (sym (told .enum-told .given .1) ∙ load .load .ensures .0)
+    some-nodes (a .n) (a .links .now) (sym (stated .enum-told .given .1) ∙ load .load .ensures .0)
 
 returns : tie.Need-returns
 unfolding blank
 returns c =
-    let told = c .before .before .before .before in
-    let load = told .before .before .before in
+    let stated = c .before .before .before .before in
+    let load = stated .before .before .before in
     let a = load .before .before .before .args in
-    all-as (a .text .now) _ _ _ _ (load-refused (a .n) (a .links .now) _ (sym (told .loading .given .1) ∙ load .load .ensures .0)) (c .put-refusal .ensures)
+    all-as (a .text .now) _ _ _ _ (load-refused (a .n) (a .links .now) _ (sym (stated .loading .given .1) ∙ load .load .ensures .0)) (c .put-refusal .ensures)
 
 returns-2 : tie.Need-returns-2
 unfolding blank
 returns-2 c =
-    let told = c .before .before .before in
-    let load = told .before .before .before in
+    let stated = c .before .before .before in
+    let load = stated .before .before .before in
     let a = load .before .before .before .args in
     all-as (a .text .now) _ _ _ _
-    (load-accepted (a .n) (a .links .now) (sym (told .enum-told .given .1) ∙ load .load .ensures .0)
+    (load-accepted (a .n) (a .links .now) (sym (stated .enum-told .given .1) ∙ load .load .ensures .0)
     ∙ ap (λ (w : List ℕ). lines w (a .n)) (sym (load .load .ensures .1)))
     (c .put-lines .ensures)
 
@@ -62,6 +65,7 @@ put-quotes-spec =
     enum-known-loading
     put-refusal-requires
     enum-told
+    slice-aggregate-put-lines
     put-lines-requires
     returns
     returns-2)

@@ -1,4 +1,4 @@
--- `history::bookings::circuit` meets its contract: a circuit's words are of the area, and its path has at most 31.
+-- `history::bookings::circuit` meets its contract: a circuit's words are of the area, and its path has at most `pathWords`.
 -- Assumes nothing.
 use mathlib.Core.Path.{ap}
 use native.Mathlib.Omega.{arith}
@@ -31,13 +31,13 @@ add-put-path c = search needs
 mul-put-path : tie.Need-mul-put-path
 mul-put-path c = search needs
 
-element-copy-out-put-path : tie.Need-element-copy-out-put-path
-element-copy-out-put-path c = search needs
+shared-slice-read-put-path : tie.Need-shared-slice-read-put-path
+shared-slice-read-put-path c = search needs
 
 put-path-requires : tie.Need-put-path-requires
 put-path-requires c κs =
     let path = c .before in
-    omega (arith, ap length (path .before .before .before .before .before .part .ensures), ap length (path .part2 .ensures))
+    omega (arith, ap length (path .before .before .before .before .part .ensures), ap length (path .part2 .ensures))
 
 slice-aggregate-write-all : tie.Need-slice-aggregate-write-all
 slice-aggregate-write-all c = search needs
@@ -51,7 +51,7 @@ slice-aggregate-write-text c = search needs
 write-text-requires : tie.Need-write-text-requires
 write-text-requires c κs =
     let path = c .before .before .before .before .before .before in
-    omega (arith, ap length (path .before .before .before .before .before .part .ensures), ap length (path .part2 .ensures))
+    omega (arith, ap length (path .before .before .before .before .part .ensures), ap length (path .part2 .ensures))
 
 returns : tie.Need-returns
 returns c = search needs
@@ -68,7 +68,7 @@ circuit-spec =
     part-requires-2
     add-put-path
     mul-put-path
-    element-copy-out-put-path
+    shared-slice-read-put-path
     put-path-requires
     slice-aggregate-write-all
     write-all-requires

@@ -2,14 +2,15 @@
 -- Assumes nothing.
 use Prim.Native.Nat.{_-_, _≤_}
 use borrow.Author.Needs.{needs}
+use Rattle.area.specs.Layout.{mostCircuits}
 use Rattle.history.proofs.bookings.circuits_held.Statement.{statement}
 use Rattle.history.proofs.bookings.circuits_held.Tie as tie
 
 abbrev Inv-loop : tie.InvT-loop
-Inv-loop area j₀ j = j ≤ 64
+Inv-loop area j₀ j = j ≤ mostCircuits
 
 abbrev μ-loop : tie.MeasureT-loop
-μ-loop area j₀ j = 64 - j
+μ-loop area j₀ j = mostCircuits - j
 
 loop-holds : tie.Need-loop-holds Inv-loop μ-loop
 loop-holds c = search needs

@@ -32,12 +32,15 @@ same-length c = search needs
 same-length-2 : tie.Need-same-length-2
 same-length-2 c = search needs
 
+same-length-3 : tie.Need-same-length-3
+same-length-3 c = search needs
+
 returns : tie.Need-returns
 returns c =
     let made = c .before .before .before .before .before .before .before in
-    let tested = made .before .before .before .before .before in
+    let tested = made .before .before .before .before in
     let asked = tested .before .before in
-    let a = asked .before .before .before .args in
+    let a = asked .before .before .before .before .args in
     let call = quoted (a .area .now) (a .work .now) (a .path .now) (a .t6) (asked .request .result) (asked .request .ensures) (made .quote .result) _
     (sym (tested .before .is-quote .ensures) ∙ tested .if1 .taken) (made .quote .ensures .0) (made .quote .ensures .1 .0) in
     let put = c .put-answer .ensures in
@@ -49,12 +52,15 @@ release-requires c κs = search needs
 put-release-requires : tie.Need-put-release-requires
 put-release-requires c κs = search needs
 
+same-length-4 : tie.Need-same-length-4
+same-length-4 c = search needs
+
 returns-2 : tie.Need-returns-2
 returns-2 c =
-    let made = c .before .before in
+    let made = c .before .before .before .before in
     let branch = made .before .before in
     let tested = branch .before in
-    let a = tested .before .before .before .before .before .args in
+    let a = tested .before .before .before .before .before .before .args in
     let call = released (a .area .now) (a .work .now) (a .path .now) (a .t6) (sym (tested .before .is-quote .ensures) ∙ tested .if1 .left)
     (branch .if2 .taken) (made .release .result) (made .release .ensures .0) (made .release .last .0) (made .release .ensures .1 .0) in
     let put = c .put-release .ensures in
@@ -66,19 +72,22 @@ admit-requires c κs = search needs
 put-answer-requires-2 : tie.Need-put-answer-requires-2
 put-answer-requires-2 c κs = search needs
 
-same-length-3 : tie.Need-same-length-3
-same-length-3 c = search needs
+same-length-5 : tie.Need-same-length-5
+same-length-5 c = search needs
 
-same-length-4 : tie.Need-same-length-4
-same-length-4 c = search needs
+same-length-6 : tie.Need-same-length-6
+same-length-6 c = search needs
+
+same-length-7 : tie.Need-same-length-7
+same-length-7 c = search needs
 
 returns-3 : tie.Need-returns-3
 returns-3 c =
-    let made = c .before .before .before .before .before .before .before in
+    let made = c .before .before .before .before .before .before .before .before .before in
     let branch = made .before .before .before .before in
     let tested = branch .before in
     let asked = tested .before .before in
-    let a = asked .before .before .before .args in
+    let a = asked .before .before .before .before .args in
     let call = admitted (a .area .now) (a .work .now) (a .path .now) (a .t6) (asked .request .result) (asked .request .ensures) (made .admit .result) _
     (sym (tested .before .is-quote .ensures) ∙ tested .if1 .left) (branch .if2 .left)
     (made .admit .ensures .0) (made .admit .ensures .1 .0) (made .admit .last .0) (made .admit .ensures .1 .1 .0) in
@@ -97,12 +106,15 @@ put-call-spec =
     put-answer-requires
     same-length
     same-length-2
+    same-length-3
     returns
     release-requires
     put-release-requires
+    same-length-4
     returns-2
     admit-requires
     put-answer-requires-2
-    same-length-3
-    same-length-4
+    same-length-5
+    same-length-6
+    same-length-7
     returns-3)

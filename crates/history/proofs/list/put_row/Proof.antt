@@ -51,16 +51,19 @@ slice-aggregate-put-call-2 c = sym (length-take-le _ _ (c .before .before .befor
 put-call-requires : tie.Need-put-call-requires
 put-call-requires c κs = (omega arith, omega (arith, slice-aggregate-put-call-2 (c .before), c .before .before .before .before .before .before .lent2 .ensures .1))
 
+same-length : tie.Need-same-length
+same-length c = search needs
+
 returns : tie.Need-returns
 unfolding workLent pathLent
 returns c =
-    let called = c .before .before in
+    let called = c .before .before .before .before in
     let named = called .before .before .before .before .before in
     let paths = named .before .before in
     let works = paths .before in
     let fill = works .before in
     let word = fill .before in
-    let a = word .before .args in
+    let a = word .before .before .args in
     let lends = lent-as (a .struck) (a .k) (a .t6) _ _
     (work-as (a .struck) (a .k) (a .t6) (works .lent .result) (word .work-filler .result) (works .lent .ensures .0) (word .work-filler .ensures))
     (path-as (a .struck) (a .k) (a .t6) (paths .lent2 .result) (fill .path-filler .result) (paths .lent2 .ensures .0) (fill .path-filler .ensures)) in (
@@ -85,4 +88,5 @@ put-row-spec =
     array-borrow-prefix-path
     slice-aggregate-put-call-2
     put-call-requires
+    same-length
     returns)

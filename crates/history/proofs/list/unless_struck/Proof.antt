@@ -20,7 +20,7 @@ returns : tie.Need-returns
 returns c =
     let tested = c .before in
     let read = tested .before in
-    let a = read .before .args in
+    let a = read .before .before .args in
     let passed = sym (tested .is-struck .ensures) ∙ c .if1 .taken in (
       skipped (a .struck) (a .k) (read .row-at .result) (read .row-at .ensures) (a .area .now) passed,
       nothing-put 400 (a .text .now) _ (a .at) (row-skipped (a .struck) (a .k) (read .row-at .result) (read .row-at .ensures) (a .area .now) passed) (search needs),
@@ -29,16 +29,20 @@ returns c =
 put-row-requires : tie.Need-put-row-requires
 put-row-requires c κs = search needs
 
+same-length : tie.Need-same-length
+same-length c = search needs
+
 returns-2 : tie.Need-returns-2
 returns-2 c =
-    let branch = c .before .before .before in
+    let made = c .before .before in
+    let branch = made .before .before .before in
     let tested = branch .before in
     let read = tested .before in
-    let a = read .before .args in
+    let a = read .before .before .args in
     let kept = sym (tested .is-struck .ensures) ∙ branch .if1 .left in (
-      called (a .struck) (a .k) (read .row-at .result) (read .row-at .ensures) (a .area .now) (c .put-row .last .1 .0) kept (c .put-row .ensures .0),
+      called (a .struck) (a .k) (read .row-at .result) (read .row-at .ensures) (a .area .now) (made .put-row .last .1 .0) kept (made .put-row .ensures .0),
       put-as 400 (a .text .now) _ _ _ (a .at) _ (row-called (a .struck) (a .k) (read .row-at .result) (read .row-at .ensures) (a .area .now) kept)
-          (c .put-row .ensures .1),
+          (made .put-row .ensures .1),
     )
 
 pub unless-struck-spec : {M : Type 1} → statement M
@@ -50,4 +54,5 @@ unless-struck-spec =
     is-struck-requires
     returns
     put-row-requires
+    same-length
     returns-2)

@@ -49,11 +49,11 @@ returns c =
     let asking = called .before .before .before .before in
     let a = asking .before .before .before .before .args in
     let said = called .admit .ensures in
-    let told = c .tell .ensures in
-    let coded = told .0 ∙ ap answerCode (said .0) in
-    let written = told .1 ∙ ap (λ (x : RequestAnswer). grantWords x (a .answer .now)) (said .0) in
+    let stated = c .tell .ensures in
+    let coded = stated .0 ∙ ap answerCode (said .0) in
+    let written = stated .1 ∙ ap (λ (z : RequestAnswer). grantWords z (a .answer .now)) (said .0) in
     subst (Ensured (a .area .now) (length (a .work .now)) (a .path .now) (a .circuit) (a .answer .now) _ _ _ _) (asking .request .ensures)
-    (coded, (written, (said .1 .0, (said .1 .1 .0, record { answer = called .admit .result; means = said .1 .1 .1; code = told .0; words = told .1 }))))
+    (coded, (written, (said .1 .0, (said .1 .1 .0, record { answer = called .admit .result; means = said .1 .1 .1; code = stated .0; words = stated .1 }))))
 
 pub line-admit-spec : {M : Type 1} → statement M
 line-admit-spec =

@@ -27,16 +27,16 @@ unfolding releaseCode
 returns c =
     let called = c .before .before .before .before .before in
     let said = called .release .ensures in
-    let told = ap releaseCode (sym (c .before .number .given .1)) in
-    (told ∙ ap releaseCode (said .0), (said .1 .0, record { answer = called .release .result; means = said .1 .1; code = told }))
+    let stated = ap releaseCode (sym (c .before .number .given .1)) in
+    (stated ∙ ap releaseCode (said .0), (said .1 .0, record { answer = called .release .result; means = said .1 .1; code = stated }))
 
 returns-2 : tie.Need-returns-2
 unfolding releaseCode
 returns-2 c =
     let called = c .before .before .before .before in
     let said = called .release .ensures in
-    let told = ap releaseCode (sym (c .enum-told .given .1)) in
-    (told ∙ ap releaseCode (said .0), (said .1 .0, record { answer = called .release .result; means = said .1 .1; code = told }))
+    let stated = ap releaseCode (sym (c .enum-told .given .1)) in
+    (stated ∙ ap releaseCode (said .0), (said .1 .0, record { answer = called .release .result; means = said .1 .1; code = stated }))
 
 pub line-release-spec : {M : Type 1} → statement M
 line-release-spec =

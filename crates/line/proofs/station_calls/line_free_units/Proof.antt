@@ -3,8 +3,8 @@
 -- Assumes nothing.
 use mathlib.Core.Path.{ap, _∙_}
 use borrow.Author.Needs.{needs}
-use Rattle.area.specs.declared.Reading.{Reading}
-use Rattle.line.specs.Codes.{readingCode, valueWord}
+use Rattle.area.specs.declared.ValueAnswer.{ValueAnswer}
+use Rattle.line.specs.Codes.{valueCode, valueWord}
 use Rattle.line.proofs.station_calls.line_free_units.Statement.{statement}
 use Rattle.line.proofs.station_calls.line_free_units.Tie as tie
 
@@ -19,8 +19,8 @@ returns c =
     let called = c .before .before in
     let answer = called .before .before .args .answer .now in
     let said = called .free-units .ensures in
-    let coded = c .tell .ensures .0 ∙ ap readingCode said in
-    let written = c .tell .ensures .1 ∙ ap (λ (a : Reading). valueWord a answer) said in
+    let coded = c .tell .ensures .0 ∙ ap valueCode said in
+    let written = c .tell .ensures .1 ∙ ap (λ (a : ValueAnswer). valueWord a answer) said in
     (coded, written)
 
 pub line-free-units-spec : {M : Type 1} → statement M

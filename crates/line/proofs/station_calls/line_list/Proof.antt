@@ -3,8 +3,8 @@
 -- Assumes nothing.
 use mathlib.Core.Path.{ap, _∙_}
 use borrow.Author.Needs.{needs}
-use Rattle.area.specs.declared.Reading.{Reading}
-use Rattle.line.specs.Codes.{readingCode, valueWord}
+use Rattle.area.specs.declared.ValueAnswer.{ValueAnswer}
+use Rattle.line.specs.Codes.{valueCode, valueWord}
 use Rattle.line.proofs.station_calls.line_list.Statement.{statement}
 use Rattle.line.proofs.station_calls.line_list.Tie as tie
 
@@ -22,10 +22,10 @@ returns c =
     let called = c .before .before .before .before in
     let answer = called .before .before .before .before .args .answer .now in
     let said = called .list .ensures in
-    let told = c .tell .ensures in
-    let coded = told .0 ∙ ap readingCode (said .0) in
-    let written = told .1 ∙ ap (λ (a : Reading). valueWord a answer) (said .0) in
-    (coded, (written, (said .1 .0, record { answer = called .list .result; means = said .1 .1; code = told .0; words = told .1 })))
+    let stated = c .tell .ensures in
+    let coded = stated .0 ∙ ap valueCode (said .0) in
+    let written = stated .1 ∙ ap (λ (a : ValueAnswer). valueWord a answer) (said .0) in
+    (coded, (written, (said .1 .0, record { answer = called .list .result; means = said .1 .1; code = stated .0; words = stated .1 })))
 
 pub line-list-spec : {M : Type 1} → statement M
 line-list-spec = tie.close (tie.spec list-requires tell-requires same-length returns)

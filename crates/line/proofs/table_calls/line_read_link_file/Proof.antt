@@ -5,20 +5,20 @@ use Prim.Native.Nat.{ℕ}
 use mathlib.Core.Path.{_≡_, sym, ap, _∙_}
 use mathlib.Core.List.{List}
 use borrow.Author.Needs.{needs}
-use Rattle.link_format.specs.declared.Reading.{Reading}
-use Rattle.link_format.specs.declared.Reading.the-variants as file
+use Rattle.link_format.specs.declared.FileAnswer.{FileAnswer}
+use Rattle.link_format.specs.declared.FileAnswer.the-variants as file
 use Rattle.line.specs.Codes.{fileCode, sizeWords}
 use Rattle.line.proofs.table_calls.line_read_link_file.Statement.{statement}
 use Rattle.line.proofs.table_calls.line_read_link_file.Tie as tie
 
 -- a refusal gives its number, and leaves the words as they stood
-refused-code : (a b : Reading) (k : ℕ) → a ≡ file.Refused k → a ≡ b → k ≡ fileCode b
+refused-code : (a b : FileAnswer) (k : ℕ) → a ≡ file.Refused k → a ≡ b → k ≡ fileCode b
 unfolding fileCode
 refused-code a b k is said = ap fileCode (sym is ∙ said)
 
-refused-words : (a b : Reading) (k : ℕ) (w : List ℕ) → a ≡ file.Refused k → a ≡ b → w ≡ sizeWords b w
+refused-words : (a b : FileAnswer) (k : ℕ) (w : List ℕ) → a ≡ file.Refused k → a ≡ b → w ≡ sizeWords b w
 unfolding sizeWords
-refused-words a b k w is said = ap (λ (a : Reading). sizeWords a w) (sym is ∙ said)
+refused-words a b k w is said = ap (λ (a : FileAnswer). sizeWords a w) (sym is ∙ said)
 
 read-requires : tie.Need-read-requires
 read-requires c κs = search needs
@@ -45,7 +45,7 @@ returns-2 c =
     let said = called .read .ensures in
     let is = sym (c .before .before .s .given .1) ∙ said .0 in
     let before = called .before .before .before .before .args .answer .now in
-    (ap fileCode is, (ap (λ (a : Reading). sizeWords a before) is, said .1))
+    (ap fileCode is, (ap (λ (a : FileAnswer). sizeWords a before) is, said .1))
 
 pub line-read-link-file-spec : {M : Type 1} → statement M
 line-read-link-file-spec =

@@ -7,21 +7,22 @@ use borrow.Author.Needs.{needs}
 use lib.ListN.{length, length-set}
 use lib.Seq.{sets}
 use Rattle.link_format.specs.Reading.{wordsFrom}
+use Rattle.network.specs.Limits.{linkWords}
 use Rattle.network.proofs.Stored.{from-none, from-turn, from-end, from-stored}
 use Rattle.link_file.proofs.records.read_records.Statement.{statement}
 use Rattle.link_file.proofs.records.read_records.Tie as tie
 
 abbrev Inv-loop : tie.InvT-loop
-Inv-loop records m table₀ i₀ i-end table i = (sets table i (wordsFrom records i (5 * m - i)) ≡ sets table₀ 0 (wordsFrom records 0 (5 * m))) × (length table ≡ length table₀) × (i ≤ 5 * m)
+Inv-loop records m table₀ i₀ i-end table i = (sets table i (wordsFrom records i (linkWords * m - i)) ≡ sets table₀ 0 (wordsFrom records 0 (linkWords * m))) × (length table ≡ length table₀) × (i ≤ linkWords * m)
 
 abbrev μ-loop : tie.MeasureT-loop
-μ-loop records m table₀ i₀ i-end table i = 5 * m - i
+μ-loop records m table₀ i₀ i-end table i = linkWords * m - i
 
 mul-i-end : tie.Need-mul-i-end Inv-loop μ-loop
 mul-i-end c = search needs
 
 loop-holds : tie.Need-loop-holds Inv-loop μ-loop
-loop-holds c = let a = c .before .before .args in (from-none _ (a .table .now) (5 * a .m), refl, search needs)
+loop-holds c = let a = c .before .before .args in (from-none _ (a .table .now) (linkWords * a .m), refl, search needs)
 
 mul-word : tie.Need-mul-word Inv-loop μ-loop
 mul-word c = search needs
@@ -45,7 +46,7 @@ loop-again : tie.Need-loop-again Inv-loop μ-loop
 loop-again c =
     let l = c .before .before .loop in
     let a = c .before .before .before .before .before .args in (
-      from-turn _ l.table l.i (5 * a .m) _ (omega arith) (c .word .ensures) ∙ l.inv .0,
+      from-turn _ l.table l.i (linkWords * a .m) _ (omega arith) (c .word .ensures) ∙ l.inv .0,
       length-set l.table l.i _ ∙ l.inv .1,
       search needs,
     )
@@ -57,7 +58,7 @@ returns : tie.Need-returns Inv-loop μ-loop
 returns c =
     let l = c .before .loop in
     let a = c .before .before .before .before .args in
-    from-end _ l.table l.i (5 * a .m) (omega arith) ∙ l.inv .0 ∙ from-stored _ (a .table .now) (5 * a .m) (omega arith)
+    from-end _ l.table l.i (linkWords * a .m) (omega arith) ∙ l.inv .0 ∙ from-stored _ (a .table .now) (linkWords * a .m) (omega arith)
 
 pub read-records-spec : {M : Type 1} → statement M
 read-records-spec =

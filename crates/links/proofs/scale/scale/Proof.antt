@@ -4,11 +4,12 @@ use borrow.Author.Needs.{needs}
 use Prim.Native.Nat.{ℕ, _*_, _≤_}
 use native.Mathlib.Nat.{mul-le-mul}
 use native.Mathlib.Omega.{arith}
+use Rattle.network.specs.Limits.{mostWeight, mostX}
 use Rattle.network.specs.Scale.{scaled}
 use Rattle.links.proofs.scale.scale.Statement.{statement}
 use Rattle.links.proofs.scale.scale.Tie as tie
 
-product : {a b : ℕ} → a ≤ 1000000 → b ≤ 248 → a * b ≤ 248000000
+product : {a b : ℕ} → a ≤ mostWeight → b ≤ mostX → a * b ≤ mostWeight * mostX
 product h k = mul-le-mul h k
 
 mul-result : tie.Need-mul-result

@@ -4,6 +4,7 @@ use Prim.Native.Nat.{_≤_}
 use mathlib.Core.Path.{_≡_, _∙_}
 use native.Mathlib.Omega.{arith}
 use lib.ListN.{length}
+use Rattle.network.specs.Limits.{workWords}
 use Rattle.search.specs.ebf.Table.{ebf}
 use Rattle.search.specs.Solver.{netIn, problemOf}
 use Rattle.search.proofs.ebf.Outcomes.{table-is, table-bounded, answers-none, answers-path}
@@ -31,7 +32,7 @@ same-memory : (filled : tie.After-rounds) → length (filled .rounds .last .0) �
 same-memory filled = filled .rounds .kept .0 ∙ begunAt filled .initialise .kept .0
 
 -- so the cell of t is in it, and `found` has the words that it asks for
-long-enough : (filled : tie.After-rounds) → 16384 ≤ length (filled .rounds .last .0)
+long-enough : (filled : tie.After-rounds) → workWords ≤ length (filled .rounds .last .0)
 long-enough filled = omega (arith, same-memory filled, startOf filled .pre .1 .0)
 
 -- work memory after the rounds is the table of the model, for the problem that the arguments describe
@@ -118,8 +119,8 @@ returns-2 c =
     let start = startOf filled in
     let pre = start .pre .1 in
     let place = placed .cell .ensures .0 in
-    let told = granted .found .ensures in
-    answers-path _ _ _ _ _ _ _ (start .pre .0) (pre .2) (pre .3) _ (pre .0) (table-at filled) place _ (omega arith) _ (pre .1) (told .0) (told .1)
+    let stated = granted .found .ensures in
+    answers-path _ _ _ _ _ _ _ (start .pre .0) (pre .2) (pre .3) _ (pre .0) (table-at filled) place _ (omega arith) _ (pre .1) (stated .0) (stated .1)
 
 pub attempt-spec : {M : Type 1} → statement M
 attempt-spec =

@@ -1,4 +1,4 @@
--- `route::attempt::found` meets its contract: the trail's notes, and the pass along them with the links' own weights.
+-- `route::attempt::found` meets its contract: the trace's notes, and the pass along them with the links' own weights.
 -- Assumes nothing.
 use native.Mathlib.Omega.{arith}
 use borrow.Author.Needs.{needs}

@@ -14,8 +14,8 @@ use Rattle.route.proofs.distance.distance.Statement.{statement}
 use Rattle.route.proofs.distance.distance.Tie as tie
 
 -- a test of the set is a test of the layer
-told : {set a : ℕ} (v : ℕ) {t b : Bool} → set ≡ a → t ≡ member set v → t ≡ b → member a v ≡ b
-told v e q is = cc
+stated : {set a : ℕ} (v : ℕ) {t b : Bool} → set ≡ a → t ≡ member set v → t ≡ b → member a v ≡ b
+stated v e q is = cc
 
 abbrev Inv-loop : tie.InvT-loop
 Inv-loop n m links usable s t set₀ k₀ set k =
@@ -40,7 +40,7 @@ returns : tie.Need-returns Inv-loop μ-loop
 unfolding distance netOf
 returns c =
     let i = c .before .before .before .loop .inv in
-    first-here _ _ _ (i .1) (omega arith) (told _ (i .0) (c .before .contains .ensures) (c .if1 .taken))
+    first-here _ _ _ (i .1) (omega arith) (stated _ (i .0) (c .before .contains .ensures) (c .if1 .taken))
 
 spread-requires : tie.Need-spread-requires Inv-loop μ-loop
 spread-requires c κs = search needs
@@ -57,7 +57,7 @@ loop-again c =
     let i = c .before .before .before .before .loop .inv in (
       iter-more _ _ _ (i .0) (c .spread .ensures),
       below-more _ _ (i .1)
-          (told _ (i .0) (c .before .before .contains .ensures) (c .before .if1 .left)),
+          (stated _ (i .0) (c .before .before .contains .ensures) (c .before .if1 .left)),
       search needs,
     )
 

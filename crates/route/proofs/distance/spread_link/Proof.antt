@@ -1,5 +1,5 @@
 -- `route::distance::spread_link` meets its contract: the tests are the model's, and both ends of a link are nodes
--- below 32.
+-- in their range.
 -- Assumes nothing.
 use mathlib.Core.Path.{sym, _∙_}
 use native.Mathlib.Omega.{arith}

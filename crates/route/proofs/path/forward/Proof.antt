@@ -1,5 +1,5 @@
--- `route::path::forward` meets its contract. The loop's invariant: the leg and the path are those after `k` turns, the
--- path has kept its length, and the leg has `k` links at most. The measure is the turns left. Assumes nothing.
+-- `route::path::forward` meets its contract. The loop's invariant: the partial path and the path are those after `k` turns, the
+-- path has kept its length, and the partial path has `k` links at most. The measure is the turns left. Assumes nothing.
 use mathlib.Core.List.{[]}
 use mathlib.Core.Path.{_≡_, refl, _∙_}
 use Prim.Native.Nat.{_≤_, _-_}

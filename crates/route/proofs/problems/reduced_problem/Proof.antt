@@ -50,8 +50,8 @@ returns c =
     let scales = c .before .before .before .before .before .before .before .before .before .scaled-column .ensures in
     let from = c .before .before .before .before .before .before .before .before .before .before .before .before .wide .ensures in
     let to = c .before .before .before .before .before .before .before .before .before .before .before .wide2 .ensures in
-    let told = c .before .before .before .before .attempt .ensures in
-    roles-answer (args .n) (args .m) (args .links .now) (args .usable .now) (args .r) (args .x) (args .w) _ _ _ _ (args .path .now) (told .0) (told .1) from to (λ i. omega (arith, keeps i)) (λ i. omega (arith, scales i))
+    let stated = c .before .before .before .before .attempt .ensures in
+    roles-answer (args .n) (args .m) (args .links .now) (args .usable .now) (args .r) (args .x) (args .w) _ _ _ _ (args .path .now) (stated .0) (stated .1) from to (λ i. omega (arith, keeps i)) (λ i. omega (arith, scales i))
 
 pub reduced-problem-spec : {M : Type 1} → statement M
 reduced-problem-spec =

@@ -58,8 +58,8 @@ returns-2 c =
     let done = c .before .before .before .improve .ensures in (
       hop-within _ _ _ _ _ _ _ _ r low (c .before .before .before .before .before .before .before .before .if1 .left) (c .before .before .before .before .before .cell .ensures .0) (c .before .before .before .before .cell2 .ensures .0) (done .0),
       λ e.
-          let told = c .due .ensures e in
-          record { words = λ none. done .1 (told .0 (r .step ∙ none)); told = told .1 },
+          let stated = c .due .ensures e in
+          record { words = λ none. done .1 (stated .0 (r .step ∙ none)); handed = stated .1 },
     )
 
 pub relax-spec : {M : Type 1} → statement M

@@ -49,7 +49,7 @@ loop-again c =
       search needs,
       λ e.
           let own = o .ensures .1 e in
-          let before = i .3 (own .told) in
+          let before = i .3 (own .handed) in
           (settled-on _ _ _ _ _ (start .pre .0) _ _ (omega arith) _ _ (omega (arith, i .1)) (o .ensures .0) (own .words) (before .0), before .1),
     )
 

@@ -51,8 +51,8 @@ loop-again c =
       o .kept .0 ∙ i .1,
       search needs,
       λ e j low.
-          let told = o .ensures .1 e in
-          by-eq j _ (λ here. rw here (told .0)) (λ ne. rw (o .ensures .0) (column-keeps _ _ _ _ _ (omega arith) (i .3 (told .1) j (omega arith)))),
+          let stated = o .ensures .1 e in
+          by-eq j _ (λ here. rw here (stated .0)) (λ ne. rw (o .ensures .0) (column-keeps _ _ _ _ _ (omega arith) (i .3 (stated .1) j (omega arith)))),
     )
 
 same-length : tie.Need-same-length Inv-loop μ-loop

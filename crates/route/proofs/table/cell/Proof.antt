@@ -1,4 +1,4 @@
--- `route::table::cell` meets its contract: 32 rows of at most 249 cells.
+-- `route::table::cell` meets its contract: as many rows as nodes, of x + 1 cells.
 -- Assumes nothing.
 use mathlib.Core.Path.{refl}
 use native.Mathlib.Omega.{arith}

@@ -1,5 +1,5 @@
 -- `route::trace::step_back` meets its contract: each return is one way through the test of `stepBack`, and the ends of
--- a listed link are nodes below 32. Assumes nothing.
+-- a listed link are nodes in their range. Assumes nothing.
 use borrow.Author.Needs.{needs}
 use native.Mathlib.Omega.{arith}
 use mathlib.Core.Path.{sym}

@@ -1,5 +1,5 @@
--- `route::trace::trace` meets its contract. The loop's invariant: the trail and the notes are those after `counter`
--- turns, and the trail is on the table; at s no further turn changes them. The measure is the turns left.
+-- `route::trace::trace` meets its contract. The loop's invariant: the trace and the notes are those after `counter`
+-- turns, and the trace is on the table; at s no further turn changes them. The measure is the turns left.
 -- Assumes nothing.
 use mathlib.Core.Path.{_≡_, ap}
 use mathlib.Core.List.{List}
@@ -9,7 +9,7 @@ use borrow.Author.Needs.{needs}
 use Rattle.network.specs.Loops.{iter}
 use Rattle.network.specs.Words.{netOf}
 use Rattle.network.proofs.Loops.{iter-none, iter-more, iter-done, iter-stays}
-use Rattle.search.specs.declared.Trail.{Trail}
+use Rattle.search.specs.declared.TracePlace.{TracePlace}
 use Rattle.search.specs.ebf.Trace.{stepBack, traced}
 use Rattle.search.proofs.ebf.Trace.{step-home}
 use Rattle.search.specs.Solver.{problemOf, unflagged, scaledOnly}
@@ -35,7 +35,7 @@ unfolding traced netOf problemOf
 returns c =
     let l = c .before .before .before .loop in
     let n = c .before .before .before .before .cells .result in
-    ap (λ (st : Trail × List ℕ). st .1)
+    ap (λ (st : TracePlace × List ℕ). st .1)
     (iter-done _ _ _ _ (iter-stays _ (l .counter) (n - l .counter) _ _ (l .inv .0) (λ _. step-home _ _ _ _ _ (c .if1 .taken))) (omega arith))
 
 step-back-requires : tie.Need-step-back-requires Inv-loop μ-loop
@@ -55,7 +55,7 @@ loop-again c =
 
 returns-2 : tie.Need-returns-2 Inv-loop μ-loop
 unfolding traced netOf problemOf
-returns-2 c = ap (λ (st : Trail × List ℕ). st .1) (iter-done _ _ _ _ (c .before .loop .inv .0) (omega arith))
+returns-2 c = ap (λ (st : TracePlace × List ℕ). st .1) (iter-done _ _ _ _ (c .before .loop .inv .0) (omega arith))
 
 pub trace-spec : {M : Type 1} → statement M
 trace-spec =

@@ -8,9 +8,11 @@ use native.Mathlib.Omega.{arith}
 use borrow.Author.Needs.{needs}
 use borrow.Author.Tests.{not-true, not-false}
 use lib.ListN.{getD}
-use Rattle.area.specs.Formed.{inRange, linksFit}
-use Rattle.area.proofs.Formed.{range-says}
-use Rattle.area.specs.Ready.{Links}
+use Rattle.network.specs.Limits.{leastNodes, mostNodes}
+use Rattle.network.specs.Ranges.{inRange}
+use Rattle.network.proofs.Ranges.{range-says}
+use Rattle.area.specs.Formed.{linksFit}
+use Rattle.area.specs.Parts.{CheckedLinks}
 use Rattle.area.proofs.CircuitCases.{part-length}
 use Rattle.area.proofs.CheckCases.{table, links-ready, units-decide, area-short, nodes-out, links-many, link-out, circuits-many, circuit-out, links-same, held-same, units-same, left-same}
 use Rattle.station.proofs.check.check.Statement.{statement}
@@ -31,7 +33,7 @@ abbrev wordsAt : tie.Else4 → List ℕ
 wordsAt linked = areaAt (longAt (rangedAt linked))
 
 -- past n: it is in its range
-nodes-in : (ranged : tie.Else2) → inRange 2 32 (getD (areaAt (longAt ranged)) 0 0) ≡ true
+nodes-in : (ranged : tie.Else2) → inRange leastNodes mostNodes (getD (areaAt (longAt ranged)) 0 0) ≡ true
 nodes-in ranged = sym (ranged .before .in-range .ensures) ∙ not-false _ (ranged .if2 .left)
 
 -- past the links: they fit, and so they are what the functions on circuits rely on
@@ -41,10 +43,10 @@ links-in linked =
     sym (links-same (wordsAt linked) (lent .before .before .wide .ensures) (lent .part .ensures) _) ∙ sym (linked .before .links-fit .ensures)
     ∙ not-false _ (linked .if4 .left)
 
-links-known : (linked : tie.Else4) → Links (linked .before .before .before .before .wide .result) (linked .before .before .part .result .now)
+links-known : (linked : tie.Else4) → CheckedLinks (linked .before .before .before .before .wide .result) (linked .before .before .part .result .now)
 links-known linked =
     let w = wordsAt linked in
-    links-ready (getD w 0 0) _ _ (range-says 2 32 (getD w 0 0) (nodes-in (rangedAt linked)) .1) (omega arith)
+    links-ready (getD w 0 0) _ _ (range-says leastNodes mostNodes (getD w 0 0) (nodes-in (rangedAt linked)) .1) (omega arith)
     (part-length w 3 _ (linked .before .before .part .ensures))
     (sym (linked .before .links-fit .ensures) ∙ not-false _ (linked .if4 .left))
 

@@ -4,6 +4,7 @@
 use native.Mathlib.Omega.{arith}
 use borrow.Author.Needs.{needs}
 use lib.ListN.{getD}
+use Rattle.network.specs.Limits.{leastPathLinks, mostPathLinks}
 use Rattle.area.proofs.CircuitCases.{part-length, range-least, range-most, number-out, units-out, count-out, path-left}
 use Rattle.station.proofs.circuits.circuit_fits.Statement.{statement}
 use Rattle.station.proofs.circuits.circuit_fits.Tie as tie
@@ -51,7 +52,7 @@ part-requires : tie.Need-part-requires
 part-requires c κs =
     let count = c .before .before in
     let start = count .before .before .before .before .before .before .before .before .before .before .before in
-    omega (arith, range-most 1 31 (getD (start .args .circuit .now) 2 0) (count .before .in-range3 .ensures) (count .if3 .left))
+    omega (arith, range-most leastPathLinks mostPathLinks (getD (start .args .circuit .now) 2 0) (count .before .in-range3 .ensures) (count .if3 .left))
 
 path-fits-requires : tie.Need-path-fits-requires
 path-fits-requires c κs =
@@ -61,7 +62,7 @@ path-fits-requires c κs =
       omega (
         arith,
         part-length (start .args .circuit .now) 3 (c .before .wide .result) (c .part .ensures),
-        range-least 1 31 (getD (start .args .circuit .now) 2 0) (count .before .in-range3 .ensures) (count .if3 .left),
+        range-least leastPathLinks mostPathLinks (getD (start .args .circuit .now) 2 0) (count .before .in-range3 .ensures) (count .if3 .left),
       ),
     )
 

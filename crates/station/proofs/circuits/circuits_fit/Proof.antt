@@ -8,7 +8,7 @@ use borrow.Author.Needs.{needs}
 use borrow.Author.Tests.{not-true, not-false}
 use Rattle.network.specs.Loops.{every}
 use Rattle.network.proofs.Loops.{every-none, every-more, every-done, every-fails}
-use Rattle.area.specs.Ready.{placeFits}
+use Rattle.area.specs.Parts.{placeFits}
 use Rattle.area.proofs.CircuitCases.{held-every}
 use Rattle.station.proofs.circuits.circuits_fit.Statement.{statement}
 use Rattle.station.proofs.circuits.circuits_fit.Tie as tie

@@ -1,4 +1,4 @@
--- `station::circuits::goes_on` meets its contract: one test after the other, and the node it leads to is one of the 32.
+-- `station::circuits::goes_on` meets its contract: one test after the other, and the node it leads to is in its range.
 -- Assumes nothing.
 use native.Mathlib.Omega.{arith}
 use borrow.Author.Needs.{needs}

@@ -2,6 +2,7 @@
 -- the places before.
 -- Assumes nothing.
 use borrow.Author.Needs.{needs}
+use Rattle.area.specs.Layout.{circuitWords}
 use Rattle.area.proofs.CircuitCases.{part-length, circuit-out, number-left}
 use Rattle.station.proofs.circuits.place_fits.Statement.{statement}
 use Rattle.station.proofs.circuits.place_fits.Tie as tie
@@ -15,7 +16,7 @@ part-requires c κs = search needs
 circuit-fits-requires : tie.Need-circuit-fits-requires
 circuit-fits-requires c κs =
     let start = c .before .before .before .before in
-    (start .pre .0, part-length (start .args .area .now) (c .before .place .result) 34 (c .part .ensures))
+    (start .pre .0, part-length (start .args .area .now) (c .before .place .result) circuitWords (c .part .ensures))
 
 returns : tie.Need-returns
 returns c =

@@ -24,7 +24,7 @@ other : (w : List ℕ) (k j at : ℕ) → at ≡ place j → (k ≡ getD w at 0 
 other w k j at e h = ne-eqb k (numberAt w j) (λ q. h (q ∙ ap (λ (a : ℕ). getD w a 0) (sym e)))
 
 abbrev Inv-loop : tie.InvT-loop
-Inv-loop area h number j₀ j = ((k : ℕ) → k < j → eqb number (numberAt area k) ≡ false) × (j ≤ h)
+Inv-loop area h number j₀ j = ((i : ℕ) → i < j → eqb number (numberAt area i) ≡ false) × (j ≤ h)
 
 abbrev μ-loop : tie.MeasureT-loop
 μ-loop area h number j₀ j = h - j
@@ -66,7 +66,7 @@ returns-2 : tie.Need-returns-2 Inv-loop μ-loop
 unfolding foundAt
 returns-2 c =
     let loop = c .before in
-    first-nowhere _ _ (λ k low. loop .loop .inv .0 k (omega arith))
+    first-nowhere _ _ (λ i low. loop .loop .inv .0 i (omega arith))
 
 pub find-spec : {M : Type 1} → statement M
 find-spec =

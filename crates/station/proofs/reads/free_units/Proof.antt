@@ -7,7 +7,7 @@ use native.Mathlib.Omega.{arith}
 use borrow.Author.Needs.{needs}
 use borrow.Author.Tests.{not-true, not-false}
 use lib.ListN.{getD}
-use Rattle.area.specs.declared.Reading.the-variants.{Value}
+use Rattle.area.specs.declared.ValueAnswer.the-variants.{Value}
 use Rattle.area.specs.FreeIn.{freeIn}
 use Rattle.area.proofs.ReadCases.{formed-long, formed-links, free-unfit, free-past, free-value}
 use Rattle.station.proofs.reads.free_units.Statement.{statement}
@@ -58,9 +58,9 @@ returns-3 c =
     let at = numbered .before in
     let start = at .before .before .before .before in
     let w = start .args .area .now in
-    let told = at .before .before .check .ensures in
-    value w (at .before .before .check .result .free) (told .1) (numbered .wide .result) (start .args .link) (numbered .wide .ensures)
-    ∙ free-value w (start .args .link) (sym (told .0) ∙ not-false _ (at .if1 .left)) (omega arith)
+    let stated = at .before .before .check .ensures in
+    value w (at .before .before .check .result .free) (stated .1) (numbered .wide .result) (start .args .link) (numbered .wide .ensures)
+    ∙ free-value w (start .args .link) (sym (stated .0) ∙ not-false _ (at .if1 .left)) (omega arith)
 
 pub free-units-spec : {M : Type 1} → statement M
 free-units-spec =

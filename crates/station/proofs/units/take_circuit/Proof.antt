@@ -7,6 +7,7 @@ use Prim.Native.Nat.{ℕ, _<_}
 use native.Mathlib.Omega.{arith}
 use borrow.Author.Needs.{needs}
 use lib.ListN.{length, getD}
+use Rattle.network.specs.Limits.{mostLinks}
 use Rattle.area.specs.Station.{circuitOf}
 use Rattle.area.specs.Units.{enough, taken}
 use Rattle.area.proofs.CircuitUnits.{path-words, path-length}
@@ -15,8 +16,8 @@ use Rattle.station.proofs.units.take_circuit.Tie as tie
 
 -- the links that were lent are low
 path-low : (c p : List ℕ) → p ≡ circuitOf c .path
-    → ((k : ℕ) → k < getD c 2 0 → getD (circuitOf c .path) k 0 < 256)
-    → (k : ℕ) → k < length p → getD p k 0 < 256
+    → ((k : ℕ) → k < getD c 2 0 → getD (circuitOf c .path) k 0 < mostLinks)
+    → (k : ℕ) → k < length p → getD p k 0 < mostLinks
 path-low c p is low k here =
     rw is (low k (omega (arith, path-length c, (rw is at here))))
 
@@ -24,7 +25,7 @@ path-low c p is low k here =
 as-circuit : (c p free after : List ℕ) (r : Bool) → p ≡ circuitOf c .path → r ≡ enough (circuitOf c .units) p free
     → (r ≡ true → after ≡ taken (circuitOf c .units) p free)
     → (r ≡ enough (circuitOf c .units) (circuitOf c .path) free) × (r ≡ true → after ≡ taken (circuitOf c .units) (circuitOf c .path) free)
-as-circuit c p free after r is told words = (rw is at told, rw is at words)
+as-circuit c p free after r is stated words = (rw is at stated, rw is at words)
 
 shared-slice-read-wide : tie.Need-shared-slice-read-wide
 shared-slice-read-wide c = search needs

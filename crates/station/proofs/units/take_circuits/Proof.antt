@@ -9,20 +9,22 @@ use native.Mathlib.Omega.{arith}
 use borrow.Author.Needs.{needs}
 use borrow.Author.Tests.{not-true, not-false}
 use lib.ListN.{length, getD}
+use Rattle.network.specs.Limits.{mostLinks, mostPathLinks}
+use Rattle.area.specs.Layout.{circuitWords}
 use Rattle.area.specs.Station.{Circuit, wordsAt, place, circuitOf, circuits}
 use Rattle.area.specs.Formed.{CircuitFits, unitsFit}
 use Rattle.area.specs.Units.{enough, taken, left}
-use Rattle.area.specs.Ready.{Held}
+use Rattle.area.specs.Parts.{Held}
 use Rattle.area.proofs.CircuitCases.{part-length}
 use Rattle.area.proofs.CircuitUnits.{Shared, tableWith, circuit-held, circuit-short, circuit-low, shared-none, circuits-more, circuits-over, shared-fit, left-some, left-none}
 use Rattle.station.proofs.units.take_circuits.Statement.{statement}
 use Rattle.station.proofs.units.take_circuits.Tie as tie
 
 -- the words that were lent are circuit j's
-lent : (w p : List ℕ) (at j : ℕ) → p ≡ wordsAt w at 34 → at ≡ place j → p ≡ wordsAt w (place j) 34
-lent w p at j is here = is ∙ ap (λ (a : ℕ). wordsAt w a 34) here
+lent : (w p : List ℕ) (at j : ℕ) → p ≡ wordsAt w at circuitWords → at ≡ place j → p ≡ wordsAt w (place j) circuitWords
+lent w p at j is here = is ∙ ap (λ (a : ℕ). wordsAt w a circuitWords) here
 
-module _ (m : ℕ) (words w : List ℕ) (h : ℕ) (held : Held m words w h) (j : ℕ) (low : j < h) (p : List ℕ) (is : p ≡ wordsAt w (place j) 34) where
+module _ (m : ℕ) (words w : List ℕ) (h : ℕ) (held : Held m words w h) (j : ℕ) (low : j < h) (p : List ℕ) (is : p ≡ wordsAt w (place j) circuitWords) where
   abbrev c : Circuit
   c = circuitOf p
 
@@ -30,15 +32,15 @@ module _ (m : ℕ) (words w : List ℕ) (h : ℕ) (held : Held m words w h) (j :
   fits : CircuitFits (tableWith m words) c
   fits = subst (λ (l : List ℕ). CircuitFits (tableWith m words) (circuitOf l)) (sym is) (circuit-held m words w h held j low)
 
-  ready : m ≤ 256 → ((length p ≡ 34) × (getD p 2 0 ≤ 31)) × ((k : ℕ) → k < getD p 2 0 → getD (circuitOf p .path) k 0 < 256)
-  ready few = ((part-length w (place j) 34 is, circuit-short m words p fits), circuit-low m words p few fits)
+  ready : m ≤ mostLinks → ((length p ≡ circuitWords) × (getD p 2 0 ≤ mostPathLinks)) × ((k : ℕ) → k < getD p 2 0 → getD (circuitOf p .path) k 0 < mostLinks)
+  ready few = ((part-length w (place j) circuitWords is, circuit-short m words p fits), circuit-low m words p few fits)
 
-  module _ (free : List ℕ) (shared : Shared words (circuits w j) free) (r : Bool) (told : r ≡ enough (c .units) (c .path) free) where
+  module _ (free : List ℕ) (shared : Shared words (circuits w j) free) (r : Bool) (stated : r ≡ enough (c .units) (c .path) free) where
     -- a link has too few
     over : r ≡ false → unitsFit m words (circuits w h) ≡ false
     over fails =
         circuits-over m words w h held j free low shared
-        (subst (λ (l : List ℕ). enough (circuitOf l .units) (circuitOf l .path) free ≡ false) is (sym told ∙ fails))
+        (subst (λ (l : List ℕ). enough (circuitOf l .units) (circuitOf l .path) free ≡ false) is (sym stated ∙ fails))
 
     -- every link has enough
     more : (after : List ℕ) → (r ≡ true → after ≡ taken (c .units) (c .path) free) → r ≡ true → Shared words (circuits w (j + 1)) after
@@ -46,7 +48,7 @@ module _ (m : ℕ) (words w : List ℕ) (h : ℕ) (held : Held m words w h) (j :
         subst (Shared words (circuits w (j + 1)))
         (sym (subst (λ (l : List ℕ). after ≡ taken (circuitOf l .units) (circuitOf l .path) free) is (is-after passes)))
         (circuits-more m words w h held j free low shared
-        (subst (λ (l : List ℕ). enough (circuitOf l .units) (circuitOf l .path) free ≡ true) is (sym told ∙ passes)))
+        (subst (λ (l : List ℕ). enough (circuitOf l .units) (circuitOf l .path) free ≡ true) is (sym stated ∙ passes)))
 
 -- after the last circuit
 whole : (m : ℕ) (words w : List ℕ) (h j : ℕ) (free : List ℕ) → j ≡ h → Shared words (circuits w j) free
@@ -96,8 +98,8 @@ returns c =
     let loop = turn .before .loop in
     let is = lent (a .area .now) _ _ (loop .j) (call .before .part .ensures) (call .before .before .before .place .ensures) in
     let held = start .pre .1 in
-    let told = call .take-circuit .ensures .0 in
-    let fails = over (a .m) (a .links .now) (a .area .now) (a .h) held (loop .j) (turn .loop-test .taken) _ is (loop .free) (loop .inv .0) _ told (not-true _ (c .before .if1 .taken)) in (
+    let stated = call .take-circuit .ensures .0 in
+    let fails = over (a .m) (a .links .now) (a .area .now) (a .h) held (loop .j) (turn .loop-test .taken) _ is (loop .free) (loop .inv .0) _ stated (not-true _ (c .before .if1 .taken)) in (
       c .unfit .ensures .0 ∙ sym fails,
       λ i. c .unfit .ensures .1 i ∙ left-none (a .m) (a .links .now) (circuits (a .area .now) (a .h)) fails i,
     )

@@ -4,16 +4,17 @@ use Prim.Native.Nat.{_-_, _≤_}
 use native.Mathlib.Omega.{arith}
 use borrow.Author.Needs.{needs}
 use lib.ListN.{getD}
+use Rattle.network.specs.Limits.{mostLinks}
 use Rattle.network.proofs.Columns.{Filled, filled-none, filled-more}
 use Rattle.area.specs.Usable.{flag}
 use Rattle.station.proofs.usable.usable.Statement.{statement}
 use Rattle.station.proofs.usable.usable.Tie as tie
 
 abbrev Inv-loop : tie.InvT-loop
-Inv-loop free units flags₀ i₀ flags i = Filled (λ k. flag units (getD free k 0)) i flags × (i ≤ 256)
+Inv-loop free units flags₀ i₀ flags i = Filled (λ k. flag units (getD free k 0)) i flags × (i ≤ mostLinks)
 
 abbrev μ-loop : tie.MeasureT-loop
-μ-loop free units flags₀ i₀ flags i = 256 - i
+μ-loop free units flags₀ i₀ flags i = mostLinks - i
 
 loop-holds : tie.Need-loop-holds Inv-loop μ-loop
 loop-holds c = (filled-none _, search needs)

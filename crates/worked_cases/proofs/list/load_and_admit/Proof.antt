@@ -3,6 +3,7 @@
 use mathlib.Core.Path.{_≡_}
 use borrow.Author.Needs.{needs}
 use lib.ListN.{length}
+use Rattle.network.specs.Limits.{workWords}
 use Rattle.cases.proofs.Areas.{m8-admitted}
 use Rattle.worked_cases.proofs.list.load_and_admit.Statement.{statement}
 use Rattle.worked_cases.proofs.list.load_and_admit.Tie as tie
@@ -25,14 +26,17 @@ request-requires c κs = search needs
 admit-requires : tie.Need-admit-requires
 admit-requires c κs = search needs
 
+same-length : tie.Need-same-length
+same-length c = search needs
+
 returns : tie.Need-returns
 returns c =
-    let made = c .before in
+    let made = c .before .before .before in
     let asked = made .before in
-    let loaded = asked .before .before .before .before in
+    let loaded = asked .before .before .before .before .before .before in
     let row = loaded .before .before in
-    let a = row .before .args in
-    let work : length (a .work .now) ≡ 16384 = search needs in
+    let a = row .before .before .args in
+    let work : length (a .work .now) ≡ workWords = search needs in
     let e = rw (asked .request .ensures, work) at (made .admit .ensures .1 .1 .0) in
     rw e (m8-admitted (loaded .load-a .last .0) (loaded .load-a .ensures) (row .row-at .result) (row .row-at .ensures))
 
@@ -46,4 +50,5 @@ load-and-admit-spec =
     array-read-admit
     request-requires
     admit-requires
+    same-length
     returns)

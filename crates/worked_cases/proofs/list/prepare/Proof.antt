@@ -12,47 +12,67 @@ use Rattle.worked_cases.proofs.list.prepare.Tie as tie
 load-a-requires : tie.Need-load-a-requires
 load-a-requires c κs = search needs
 
+same-length : tie.Need-same-length
+same-length c = search needs
+
 returns : tie.Need-returns
 returns c =
-    let e = c .load-a .ensures in
-    (e .0, e .1 ∙ ap (λ (k : ℕ). station (areaIn k)) (sym (c .before .before .if1 .taken)))
+    let made = c .before .before in
+    let e = made .load-a .ensures in
+    (e .0, e .1 ∙ ap (λ (k : ℕ). station (areaIn k)) (sym (made .before .before .if1 .taken)))
 
 load-and-admit-requires : tie.Need-load-and-admit-requires
 load-and-admit-requires c κs = search needs
 
+same-length-2 : tie.Need-same-length-2
+same-length-2 c = search needs
+
 returns-2 : tie.Need-returns-2
 returns-2 c =
-    let e = c .load-and-admit .ensures in
-    (e .0, e .1 ∙ ap (λ (k : ℕ). station (areaIn k)) (sym (c .before .before .before .if2 .taken)))
+    let made = c .before .before in
+    let e = made .load-and-admit .ensures in
+    (e .0, e .1 ∙ ap (λ (k : ℕ). station (areaIn k)) (sym (made .before .before .before .if2 .taken)))
 
 load-none-requires : tie.Need-load-none-requires
 load-none-requires c κs = search needs
 
+same-length-3 : tie.Need-same-length-3
+same-length-3 c = search needs
+
 returns-3 : tie.Need-returns-3
 returns-3 c =
-    let e = c .load-none .ensures in
-    (e .0, e .1 ∙ ap (λ (k : ℕ). station (areaIn k)) (sym (c .before .before .if3 .taken)))
+    let made = c .before .before in
+    let e = made .load-none .ensures in
+    (e .0, e .1 ∙ ap (λ (k : ℕ). station (areaIn k)) (sym (made .before .before .if3 .taken)))
 
 load-b-requires : tie.Need-load-b-requires
 load-b-requires c κs = search needs
 
+same-length-4 : tie.Need-same-length-4
+same-length-4 c = search needs
+
 returns-4 : tie.Need-returns-4
 returns-4 c =
-    let e = c .load-b .ensures in
-    let none = c .before .before in
+    let made = c .before .before in
+    let e = made .load-b .ensures in
+    let none = made .before .before in
     let m8 = none .before in
     let a = m8 .before in
-    (e .0, e .1 ∙ ap station (rest-b (a .before .args .which) (a .if1 .left) (m8 .if2 .left) (none .if3 .left)))
+    (e .0, e .1 ∙ ap station (rest-b (a .before .before .args .which) (a .if1 .left) (m8 .if2 .left) (none .if3 .left)))
 
 pub prepare-spec : {M : Type 1} → statement M
 prepare-spec =
     tie.close
     (tie.spec
     load-a-requires
+    same-length
     returns
     load-and-admit-requires
+    same-length-2
     returns-2
     load-none-requires
+    same-length-3
     returns-3
     load-b-requires
+    same-length-4
     returns-4)

@@ -6,22 +6,24 @@ use mathlib.Core.Path.{_≡_}
 use mathlib.Core.Bool.{Bool, true, not, _&&_}
 use mathlib.Core.List.{List}
 use lib.ListN.{length}
+use Rattle.network.specs.Limits.{linkWords, mostLinks, mostNodes}
 use Rattle.network.specs.Words.{field}
+use Rattle.area.specs.Layout.{areaWords, mostCircuits}
 use Rattle.area.specs.Station.{circuitOf, circuitAt, circuits}
 use Rattle.area.specs.Books.{holds}
 use Rattle.area.specs.Formed.{circuitFits, heldFit}
 
--- m links between at most 32 nodes
-pub record Links (m : ℕ) (words : List ℕ) : Type 0 where
-  pub few : m ≤ 256
-  pub exact : length words ≡ 5 * m
-  pub from : (i : ℕ) → i < m → field words i 0 < 32
-  pub to : (i : ℕ) → i < m → field words i 1 < 32
+-- m links between nodes in their range
+pub record CheckedLinks (m : ℕ) (words : List ℕ) : Type 0 where
+  pub few : m ≤ mostLinks
+  pub exact : length words ≡ linkWords * m
+  pub from : (i : ℕ) → i < m → field words i 0 < mostNodes
+  pub to : (i : ℕ) → i < m → field words i 1 < mostNodes
 
 -- an area with room for h circuits
 pub record Room (w : List ℕ) (h : ℕ) : Type 0 where
-  pub long : 3459 ≤ length w
-  pub few : h ≤ 64
+  pub long : areaWords ≤ length w
+  pub few : h ≤ mostCircuits
 
 -- h circuits that fit
 pub record Held (m : ℕ) (words w : List ℕ) (h : ℕ) : Type 0 where

@@ -1,14 +1,14 @@
--- `booking::seek::seek` meets its contract: the network that it searches is the one that the request sees.
+-- `booking::find_path::find_path` meets its contract: the network that it searches is the one that the request sees.
 -- Assumes nothing.
 use mathlib.Core.Path.{ap, _∙_}
 use native.Mathlib.Omega.{arith}
 use borrow.Author.Needs.{needs}
 use Rattle.area.proofs.ReadCases.{formed-long, formed-links}
-use Rattle.rules.specs.Replies.{PathReply, told, answerOf, pathAfter}
-use Rattle.rules.proofs.Seeking.{search-ready, reply-is}
-use Rattle.rules.proofs.Granting.{told-reply, path-reply}
-use Rattle.booking.proofs.seek.seek.Statement.{statement}
-use Rattle.booking.proofs.seek.seek.Tie as tie
+use Rattle.rules.specs.Replies.{PathReply, numbered, answerOf, pathAfter}
+use Rattle.rules.proofs.Searching.{search-ready, reply-is}
+use Rattle.rules.proofs.Granting.{numbered-reply, path-reply}
+use Rattle.booking.proofs.find_path.find_path.Statement.{statement}
+use Rattle.booking.proofs.find_path.find_path.Tie as tie
 
 -- The steps that the facts are taken from, each seen from the one after it: `numbered` has n, `counted` m, `lent` the link
 -- words, `flagged` the flags, `searched` the search's answer.
@@ -71,20 +71,20 @@ returns c =
     let flagged = searched .before .before .before .before in
     let lent = flagged .before in
     let counted = lent .before in
-    let numbered = counted .before .before in
-    let start = numbered .before .before .before .before .before in
+    let nodes = counted .before .before in
+    let start = nodes .before .before .before .before .before in
     let w = start .args .area .now in
     let l = start .args .path .now in
     let is =
     reply-is w (start .args .free .now) (flagged .usable .result) (start .args .work .now) l (start .args .r) (start .pre) (omega arith)
-    (flagged .usable .ensures) _ _ _ (numbered .wide .ensures) (counted .wide2 .ensures) (lent .part .ensures) in
+    (flagged .usable .ensures) _ _ _ (nodes .wide .ensures) (counted .wide2 .ensures) (lent .part .ensures) in
     let found = searched .search .ensures in (
-      c .numbered .ensures ∙ ap told (found .0) ∙ told-reply _ _ ∙ ap answerOf is,
+      c .numbered .ensures ∙ ap numbered (found .0) ∙ numbered-reply _ _ ∙ ap answerOf is,
       found .1 ∙ path-reply _ _ l ∙ ap (λ (a : PathReply). pathAfter a l) is,
     )
 
-pub seek-spec : {M : Type 1} → statement M
-seek-spec =
+pub find-path-spec : {M : Type 1} → statement M
+find-path-spec =
     tie.close
     (tie.spec
     shared-slice-read-wide

@@ -1,4 +1,4 @@
--- `answer_lines::path_told` meets its contract: a path is no longer than the words that it stands in.
+-- `answer_lines::path_words` meets its contract: a path is no longer than the words that it stands in.
 -- Assumes nothing.
 use Prim.Native.Nat.{ℕ}
 use mathlib.Core.Path.{sym, ap}
@@ -6,8 +6,8 @@ use native.Mathlib.Omega.{arith}
 use borrow.Author.Needs.{needs}
 use lib.ListN.{take}
 use lib.Seq.{take-all, length-take-le}
-use Rattle.answer_lines.proofs.path_told.Statement.{statement}
-use Rattle.answer_lines.proofs.path_told.Tie as tie
+use Rattle.answer_lines.proofs.path_words.Statement.{statement}
+use Rattle.answer_lines.proofs.path_words.Tie as tie
 
 wide-requires : tie.Need-wide-requires
 wide-requires c κs = search needs
@@ -25,5 +25,5 @@ returns-2 c =
       omega (arith, length-take-le (c .before .before .wide .result) (a .words .now) (search needs)),
     )
 
-pub path-told-spec : {M : Type 1} → statement M
-path-told-spec = tie.close (tie.spec wide-requires returns slice-aggregate-result returns-2)
+pub path-words-spec : {M : Type 1} → statement M
+path-words-spec = tie.close (tie.spec wide-requires returns slice-aggregate-result returns-2)
