@@ -45,17 +45,17 @@ reply-refused k j (grants b) e = absurd (zero-one cc)
 
 -- a granted path's l links stand in the first words of the buffer
 module _ (k l : ℕ) (g : Grant) (buffer after : List ℕ) (wide : l ≡ g .links) where
-  abbrev Told : PathReply → Type 0
-  Told said = (l ≤ length after) × (replyLine k said ≡ line k (g .problem ∷ g .delay ∷ g .cost ∷ take l after))
+  abbrev Written : PathReply → Type 0
+  Written said = (l ≤ length after) × (replyLine k said ≡ line k (g .problem ∷ g .delay ∷ g .cost ∷ take l after))
 
   granted-written : (b : PathGrant) → g ≡ record { problem = b .problem; delay = b .delay; cost = b .cost; links = length (b .path) }
-      → after ≡ b .path ++ drop (length (b .path)) buffer → Told (grants b)
+      → after ≡ b .path ++ drop (length (b .path)) buffer → Written (grants b)
   granted-written b e written = (
     rw (wide, e, written) (simp length-append (omega arith)),
     grants-line k b ∙ rw (wide, e, written) (rw take-append-seam),
   )
 
-  pub reply-granted : (said : PathReply) → Granted g ≡ answerOf said → after ≡ pathAfter said buffer → Told said
+  pub reply-granted : (said : PathReply) → Granted g ≡ answerOf said → after ≡ pathAfter said buffer → Written said
   unfolding answerOf pathAfter
   reply-granted (refuses number) e written = absurd (zero-one cc)
   reply-granted (grants b) e written = granted-written b (cc) written

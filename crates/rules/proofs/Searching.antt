@@ -71,9 +71,9 @@ module _ (w : List ℕ) (ok : wellFormed w ≡ true) where
         let none : getD flags i 0 ≡ 0 = List·getD-eq-default flags 0 (omega arith) in
         rw (none, free-past i high) (sym (lt-leb b 0 some)))
 
-    pub seek-net : netOf (getD w 0 0) m words flags ≡ net (books (station w)) b
+    pub area-net : netOf (getD w 0 0) m words flags ≡ net (books (station w)) b
     unfolding netOf net books station tableIn
-    seek-net =
+    area-net =
         λ t. record {
           nodes = getD w 0 0;
           links = m;
@@ -86,9 +86,9 @@ module _ (w : List ℕ) (ok : wellFormed w ≡ true) where
 
     module _ (work path : List ℕ) (memory : workWords ≤ length work) (buffer : pathWords ≤ length path) (r : Request)
         (request : RequestFits (getD w 0 0) r) where
-      pub seek-ready : Ready (getD w 0 0) m words flags work path r
+      pub area-ready : Ready (getD w 0 0) m words flags work path r
       unfolding tableIn
-      seek-ready =
+      area-ready =
           record {
             table =
                 record {
@@ -126,10 +126,10 @@ module _ (w units flags work path : List ℕ) (r : Request) (ok : SearchableArea
   pub search-ready : Ready n k links flags work path r
   search-ready =
       rw (links-are, is-n, is-m)
-      (seek-ready w (ok .formed) (r .units) (asked .terms .units-least) units flags (ok .units) whole flagged work path (ok .memory) (ok .buffer) r asked)
+      (area-ready w (ok .formed) (r .units) (asked .terms .units-least) units flags (ok .units) whole flagged work path (ok .memory) (ok .buffer) r asked)
 
   pub search-net : netOf n k links flags ≡ netFor w r
-  search-net = rw (links-are, is-n, is-m) (seek-net w (ok .formed) (r .units) (asked .terms .units-least) units flags (ok .units) whole flagged)
+  search-net = rw (links-are, is-n, is-m) (area-net w (ok .formed) (r .units) (asked .terms .units-least) units flags (ok .units) whole flagged)
 
   -- the reply for what the search found is the one that the books give
   pub reply-is : replyOf (netOf n k links flags) (outcome (netOf n k links flags) r) ≡ searched (booksIn w) r

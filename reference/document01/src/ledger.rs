@@ -67,7 +67,7 @@ impl Ledger {
     }
 
     /// 9 and 10, else a grant.
-    fn sought(&self, request: &Request) -> Reply {
+    fn searched(&self, request: &Request) -> Reply {
         match self.search(request).map_or(Found::NoPath, |search| search.found()) {
             Found::NoPath => Reply::Refused(9),
             Found::NoSolution => Reply::Refused(10),
@@ -102,7 +102,7 @@ impl Ledger {
     pub fn quote(&self, work: usize, path: usize, request: &Request) -> Reply {
         match self.request_refused(work, path, request) {
             Some(number) => Reply::Refused(number),
-            None => self.sought(request),
+            None => self.searched(request),
         }
     }
 
@@ -112,9 +112,9 @@ impl Ledger {
         }
         let refused = self.number_refused(number).map(Reply::Refused);
         if self.rules.hold(Rule::NumberBeforeSearch) {
-            return refused.unwrap_or_else(|| self.sought(request));
+            return refused.unwrap_or_else(|| self.searched(request));
         }
-        match self.sought(request) {
+        match self.searched(request) {
             Reply::Granted { .. } if refused.is_some() => refused.unwrap(),
             reply => reply,
         }

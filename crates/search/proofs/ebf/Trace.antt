@@ -98,14 +98,14 @@ module _ (g : Net) (q : Problem) (s : ℕ) (l : List ℕ) where
   step-on v k p other st = simp (ne-eqb v s other, lt-leb _ _ (st .listed), le-ltb _ _ (st .room))
 
   -- what the turns along a trace from v and k give, where the links of p led on to t
-  record Trailed (t v k : ℕ) (p next r : List ℕ) : Type 0 where
+  record TracedTo (t v k : ℕ) (p next r : List ℕ) : Type 0 where
     pub walk : Walk g s t r
     pub kept : sum (q .kept) r ≤ at q l v k + sum (q .kept) p
     pub scaled : sum (q .scaledBy) r ≤ k + sum (q .scaledBy) p
     pub noted : next ≡ notes g r .next
 
   traced-back : (n d t v k : ℕ) (p : List ℕ) → Trace g q s l n v k → Walk g v t p
-      → (r : List ℕ) × Trailed t v k p (iter (λ _. stepBack g q l s) (d + n) (place g v k p) .1) r
+      → (r : List ℕ) × TracedTo t v k p (iter (λ _. stepBack g q l s) (d + n) (place g v k p) .1) r
   traced-back zero d t v k p tr w = (
     p,
     record {
@@ -132,7 +132,7 @@ module _ (g : Net) (q : Problem) (s : ℕ) (l : List ℕ) where
       )
 
   -- ---- the whole trace: a walk to t within the table's number and x, and its notes
-  pub record IsTrail (t : ℕ) (p : List ℕ) : Type 0 where
+  pub record IsTraced (t : ℕ) (p : List ℕ) : Type 0 where
     pub walk : Walk g s t p
     pub kept : sum (q .kept) p ≤ at q l t (q .x)
     pub scaled : sum (q .scaledBy) p ≤ q .x
@@ -140,7 +140,7 @@ module _ (g : Net) (q : Problem) (s : ℕ) (l : List ℕ) where
 
 pub trace-walk : (g : Net) (q : Problem) → Ends g → (s : ℕ) (l : List ℕ) → Good g q s l → (t : ℕ) → t < g .nodes
     → at q l t (q .x) ≤ q .bound
-    → (p : List ℕ) × IsTrail g q s l t p
+    → (p : List ℕ) × IsTraced g q s l t p
 unfolding traced
 trace-walk g q ends s l good t t-low within =
     let tr = good .traced t (q .x) t-low (le-refl _) within in
