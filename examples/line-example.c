@@ -98,11 +98,12 @@ static int load(const char *name)
 
 int main(int argc, char **argv)
 {
-    uint32_t card[4];
+    uint32_t classes[LINE_SAMPLE_WORDS], card[4];
     if (argc != 2 || !load(argv[1]))
         return 1;
 
-    if (line_class(0, card) == LINE_GRANTED)
+    line_sample_classes(classes);
+    if (line_class(classes, LINE_SAMPLE_WORDS, 0, card) == LINE_GRANTED)
         printf("card: %u units, D %u, C %u, coefficient %u\n", (unsigned)card[0], (unsigned)card[1],
                (unsigned)card[2], (unsigned)card[3]);
     quote("M1", 3, 1, 8, 20, 5);

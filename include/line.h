@@ -58,8 +58,13 @@ extern "C" {
 #define LINE_LEAST_CIRCUIT_NUMBER 1
 #define LINE_MOST_CIRCUIT_NUMBER 65535
 
-/* How many service classes there are: 0 card, 1 PIN, 2 tank, 3 prices, 4 service, 5 pictures. */
-#define LINE_CLASSES 6
+/* A class table: the words of a row (units, delay bound, cost bound, coefficient), most rows, words of a full table. */
+#define LINE_ROW_WORDS 4
+#define LINE_MOST_ROWS 64
+#define LINE_CLASS_WORDS 256
+
+/* The words of the sample table, with the classes 0 card, 1 PIN, 2 tank, 3 prices, 4 service, 5 pictures. */
+#define LINE_SAMPLE_WORDS 24
 
 /* What a call returns: granted, or why it was refused. */
 #define LINE_GRANTED 0
@@ -78,10 +83,12 @@ extern "C" {
 #define LINE_NOT_HELD 13             /* no held circuit has this number */
 #define LINE_LIST_TOO_SHORT 14       /* the buffer is shorter than the number of held circuits */
 #define LINE_NO_SUCH_LINK 15         /* the link is not below m */
-#define LINE_NO_SUCH_CLASS 16        /* the class is over 5 */
+#define LINE_NO_SUCH_CLASS 16        /* the class is not below the row count */
 #define LINE_FILE_NO_TRAILER 17      /* the file has under 16 bytes or does not end with RTLK */
 #define LINE_FILE_LENGTH 18          /* m is over 256, or the parts do not make the file's length */
 #define LINE_TABLE_TOO_SHORT 19      /* the table buffer has under 5 m words */
+#define LINE_CLASSES_LENGTH 20       /* class table: no words, or over 256, or no multiple of 4 */
+#define LINE_CLASSES_OUT_OF_RANGE 21 /* class table: a number of a row is out of range */
 
 /*
  * Loads a link table, 5 words a link: from, to, delay, cost, capacity. It writes n, m, 0 and the links into the
@@ -138,11 +145,28 @@ uint32_t line_list(const uint32_t *area, size_t area_words, uint32_t *numbers, s
 uint32_t line_free_units(const uint32_t *area, size_t area_words, uint32_t link, uint32_t answer[1]);
 
 /*
- * What a service class asks for: answer[0] to answer[3] are units, delay bound, cost bound, coefficient.
- * Ranges: service_class 0 to 5.
- * Refusals: 16.
+ * Checks a class table, 4 words a row: units, delay bound, cost bound, coefficient, in the ranges of a request.
+ * Ranges: row_words a multiple of 4, from 4 to 256; units 1 to 65,535; delay_bound 1 to 31,000,000; cost_bound 1 to
+ * 31,000,000; coefficient 1 to 8.
+ * Refusals: 20, 21.
  */
-uint32_t line_class(uint32_t service_class, uint32_t answer[4]);
+uint32_t line_check_classes(const uint32_t *rows, size_t row_words);
+
+/*
+ * What a service class asks for, by a class table, which is checked first: answer[0] to answer[3] are the units, delay
+ * bound, cost bound and coefficient of its row. Rows are numbered from 0.
+ * Ranges: row_words a multiple of 4, from 4 to 256; service_class below the row count; units 1 to 65,535; delay_bound
+ * 1 to 31,000,000; cost_bound 1 to 31,000,000; coefficient 1 to 8.
+ * Refusals: 20, 21, 16.
+ */
+uint32_t line_class(const uint32_t *rows, size_t row_words, uint32_t service_class, uint32_t answer[4]);
+
+/*
+ * Writes the sample table, for a station that has no class table of its own.
+ * Ranges: none.
+ * Refusals: none.
+ */
+uint32_t line_sample_classes(uint32_t answer[24]);
 
 /*
  * Reads a link file: answer[0] is n, answer[1] is m, and the words of the m links stand in the first 5 m words of

@@ -26,6 +26,7 @@ static uint32_t area[LINE_AREA_WORDS];
 static uint32_t work[LINE_WORK_WORDS];
 static uint32_t path[LINE_PATH_WORDS];
 static uint32_t numbers[LINE_MOST_CIRCUITS];
+static uint32_t rows[LINE_CLASS_WORDS];
 static uint32_t answer[4];
 static uint32_t code;
 static uint32_t bound;
@@ -58,6 +59,13 @@ static void make_file(void)
     put_word(file + 4 * LINE_TABLE_WORDS + 4, LINE_MOST_LINKS);
     put_word(file + 4 * LINE_TABLE_WORDS + 8, LINE_MOST_NODES);
     memcpy(file + 4 * LINE_TABLE_WORDS + 12, "RTLK", 4);
+}
+
+/* A full class table: 1 is in every range. */
+static void make_rows(void)
+{
+    for (size_t i = 0; i < LINE_CLASS_WORDS; i++)
+        rows[i] = 1;
 }
 
 static void nothing(void)
@@ -97,9 +105,19 @@ static void free_units(void)
     code = line_free_units(area, LINE_AREA_WORDS, LINE_MOST_LINKS - 1, answer);
 }
 
+static void check_classes(void)
+{
+    code = line_check_classes(rows, LINE_CLASS_WORDS);
+}
+
 static void class_row(void)
 {
-    code = line_class(LINE_CLASSES - 1, answer);
+    code = line_class(rows, LINE_CLASS_WORDS, LINE_MOST_ROWS - 1, answer);
+}
+
+static void sample_classes(void)
+{
+    code = line_sample_classes(rows);
 }
 
 static void read_link_file(void)
@@ -157,6 +175,7 @@ int main(void)
 {
     make_links();
     make_file();
+    make_rows();
     printf("Bytes of stack for a call: 32 nodes in a row, 256 links, x = 248, 63 circuits held.\n");
     printf("call                  outcome       bytes\n");
     row("line_load", "loaded", load, LINE_GRANTED);
@@ -170,7 +189,9 @@ int main(void)
     row("line_list", "listed", list, LINE_GRANTED);
     row("line_release", "released", release, LINE_GRANTED);
     row("line_free_units", "answered", free_units, LINE_GRANTED);
+    row("line_check_classes", "accepted", check_classes, LINE_GRANTED);
     row("line_class", "answered", class_row, LINE_GRANTED);
+    row("line_sample_classes", "answered", sample_classes, LINE_GRANTED);
     row("line_read_link_file", "read", read_link_file, LINE_GRANTED);
     return 0;
 }

@@ -1,5 +1,5 @@
 /*
- * Every refusal number of every C function, by the names of line.h, in document 01's order: a call that two numbers
+ * Every refusal number of every C function, by the names of line.h, in the papers' order: a call that two numbers
  * would refuse gives the first. A refused call leaves the answer array, the area and the other buffers as they were;
  * only work memory may differ. A last granted call of each function shows that the next number no longer applies.
  */
@@ -14,6 +14,7 @@ static uint32_t work[LINE_WORK_WORDS];
 static uint32_t path[LINE_PATH_WORDS];
 static uint32_t numbers[LINE_MOST_CIRCUITS];
 static uint32_t table[LINE_TABLE_WORDS];
+static uint32_t rows[260];
 static uint32_t answer[4];
 static int failures = 0;
 
@@ -132,8 +133,45 @@ static void other_refusals(void)
     refused("release", line_release(area, a - 1, 8), LINE_AREA_NOT_WELL_FORMED);
     refused("release", line_release(area, a, 8), LINE_NOT_HELD);
     granted("release", line_release(area, a, 7));
-    refused("class", line_class(LINE_CLASSES, answer), LINE_NO_SUCH_CLASS);
-    granted("class", line_class(LINE_CLASSES - 1, answer));
+}
+
+/* Word counts and numbers on both sides of each limit, in tables whose words are 1 elsewhere, which is in every range. */
+static void class_refusals(void)
+{
+    static const size_t lengths[] = {0, 1, 2, 3, 5, 255, 257, 260};
+    static const uint32_t least[4] = {LINE_LEAST_UNITS, LINE_LEAST_BOUND, LINE_LEAST_BOUND, LINE_LEAST_COEFFICIENT};
+    static const uint32_t most[4] = {LINE_MOST_UNITS, LINE_MOST_DELAY_BOUND, LINE_MOST_COST_BOUND,
+                                     LINE_MOST_COEFFICIENT};
+    fill(rows, sizeof rows / sizeof rows[0], 1);
+    for (size_t i = 0; i < sizeof lengths / sizeof lengths[0]; i++) {
+        rows[0] = 0;
+        refused("check classes", line_check_classes(rows, lengths[i]), LINE_CLASSES_LENGTH);
+        refused("class", line_class(rows, lengths[i], 65, answer), LINE_CLASSES_LENGTH);
+        rows[0] = 1;
+        refused("class", line_class(rows, lengths[i], 0, answer), LINE_CLASSES_LENGTH);
+    }
+    for (size_t i = 0; i < 2 * LINE_ROW_WORDS; i++) {
+        const uint32_t ends[2] = {least[i % 4], most[i % 4]}, past[2] = {least[i % 4] - 1, most[i % 4] + 1};
+        for (size_t j = 0; j < 2; j++) {
+            rows[i] = past[j];
+            refused("check classes", line_check_classes(rows, 8), LINE_CLASSES_OUT_OF_RANGE);
+            refused("class", line_class(rows, 8, 2, answer), LINE_CLASSES_OUT_OF_RANGE);
+            refused("class", line_class(rows, 8, i < 4 ? 1 : 0, answer), LINE_CLASSES_OUT_OF_RANGE);
+            rows[i] = ends[j];
+            granted("check classes", line_check_classes(rows, 8));
+        }
+        rows[i] = 1;
+    }
+    refused("class", line_class(rows, 4, 1, answer), LINE_NO_SUCH_CLASS);
+    refused("class", line_class(rows, 4, UINT32_MAX, answer), LINE_NO_SUCH_CLASS);
+    refused("class", line_class(rows, LINE_CLASS_WORDS, LINE_MOST_ROWS, answer), LINE_NO_SUCH_CLASS);
+    rows[LINE_CLASS_WORDS - 1] = 7;
+    if (line_class(rows, LINE_CLASS_WORDS, LINE_MOST_ROWS - 1, answer) != LINE_GRANTED || answer[0] != 1
+        || answer[3] != 7) {
+        printf("class: not the last row\n");
+        failures++;
+    }
+    ready();
 }
 
 /* An area that claims 65 circuits is not well formed, whatever else holds. */
@@ -193,6 +231,7 @@ int main(void)
     quote_refusals();
     admit_refusals();
     other_refusals();
+    class_refusals();
     damaged_area();
     full_area();
     file_refusals();

@@ -11,7 +11,7 @@ use lib.Dec.{ltb, leb}
 use borrow.Author.Tests.{leb-true, leb-false, ltb-true, ltb-false}
 use Rattle.network.specs.Lists.{All}
 use Rattle.network.proofs.Tests.{by-bool, fst-of, snd-of}
-use Rattle.area.specs.Refusals.{Rule, _when_, Passes, Reply, refuses, grants, Answered}
+use Rattle.area.specs.Refusals.{Rule, _when_, FirstApplies, Passes, Reply, refuses, grants, Answered}
 use Rattle.area.specs.Checks.{Check, _unless_, firstFailing, unlessRefused, checked}
 
 -- ---- the first that fails
@@ -93,23 +93,37 @@ module _ (k : ℕ) (over : 0 < k) where
   pub tests-false : (b : Bool) → Tests (k unless b) (k when b ≡ false)
   tests-false b = record { over = over; number = refl; passes = λ e f. true≢false (sym e ∙ f); fails = λ e. e }
 
+-- what holds of the refusal by the first rule that applies, and past all rules of a, holds of what the checks give
+pub checked-by : {A : Type 0} (P : A → Type 0) (refuse : ℕ → A) (cs : List Check) (rs : List Rule) → Tested cs rs
+    → (a : A) → (Passes rs → P a) → ((k : ℕ) → FirstApplies rs k → P (refuse k)) → P (checked refuse cs a)
+checked-by P refuse [] [] t a on refused = on tt
+checked-by P refuse (c ∷ cs) (r ∷ rs) t a on refused =
+    by-bool (c .passes)
+    (λ q. rw q (checked-by P refuse cs rs (t .1) a (λ p. on (t .0 .passes q, p)) (λ k h. refused k (inr (t .0 .passes q, h)))))
+    (λ q. rw q (by-number (c .number) (t .0 .over) (refused (c .number) (inl (t .0 .fails q, t .0 .number)))))
+  where
+    by-number : (n : ℕ) → 0 < n → P (refuse n) → P (unlessRefused refuse a n)
+    by-number zero over h = absurd (omega (arith, over))
+    by-number (suc n) over h = h
+
+-- the first that applies is the first of more rules
+pub first-of-more : (rs qs : List Rule) (k : ℕ) → FirstApplies rs k → FirstApplies (rs ++ qs) k
+first-of-more [] qs k h = absurd h
+first-of-more (r ∷ rs) qs k (inl h) = inl h
+first-of-more (r ∷ rs) qs k (inr h) = inr (h .0, first-of-more rs qs k (h .1))
+
 module _ {A : Type 0} (G : A → Type 0) where
-  -- a rule that does not apply changes nothing
+  -- rules that do not apply change nothing
   pub unapplied : (r : Rule) (rs : List Rule) → (r .applies → ⊥) → (a : Reply A) → Answered G rs a → Answered G (r ∷ rs) a
   unapplied r rs n (refuses k) h = inr (λ p. absurd (n p), h)
   unapplied r rs n (grants a) h = ((λ p. absurd (n p), h .0), h .1)
 
-  first-applies : (r : Rule) (rs : List Rule) (a : Reply A) (n : ℕ) → 0 < n → n ≡ r .number → r .applies
-      → Answered G (r ∷ rs) (unlessRefused refuses a n)
-  first-applies r rs a zero over e h = absurd (omega (arith, over))
-  first-applies r rs a (suc n) over e h = inl (h, e)
+  all-unapplied : (rs qs : List Rule) → Passes rs → (a : Reply A) → Answered G qs a → Answered G (rs ++ qs) a
+  all-unapplied [] qs p a h = h
+  all-unapplied (r ∷ rs) qs p a h = unapplied r (rs ++ qs) (p .0) a (all-unapplied rs qs (p .1) a h)
 
   -- checks that test rules refuse as the rules do; past them the rules that are left decide
   pub checked-answers : (cs : List Check) (rs : List Rule) → Tested cs rs → (qs : List Rule) (a : Reply A) → (Passes rs → Answered G qs a)
       → Answered G (rs ++ qs) (checked refuses cs a)
-  checked-answers [] [] t qs a on = on tt
-  checked-answers (c ∷ cs) (r ∷ rs) t qs a on =
-      by-bool (c .passes)
-      (λ q.
-      rw q (unapplied r (rs ++ qs) (t .0 .passes q) (checked refuses cs a) (checked-answers cs rs (t .1) qs a λ p. on (λ h. absurd (t .0 .passes q h), p))))
-      (λ q. rw q (first-applies r (rs ++ qs) a (c .number) (t .0 .over) (t .0 .number) (t .0 .fails q)))
+  checked-answers cs rs t qs a on =
+      checked-by (Answered G (rs ++ qs)) refuses cs rs t a (λ p. all-unapplied rs qs p a (on p)) (first-of-more rs qs)

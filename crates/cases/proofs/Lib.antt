@@ -1,3 +1,4 @@
 pub mod Worked
 pub mod Rows
 pub mod Areas
+pub mod ClassCases

@@ -1,2 +1,3 @@
--- Document 01's worked cases.
+-- Document 01's worked cases, and cases of class tables.
 pub mod Document01
+pub mod ClassCases

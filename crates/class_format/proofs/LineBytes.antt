@@ -8,6 +8,7 @@ use native.Mathlib.Numerals.{add-one}
 use native.Mathlib.Omega.{arith}
 use lib.ListN.{length}
 use lib.Seq.{sets}
+use Rattle.rules.specs.ClassTable.{rowsIn}
 use Rattle.text_format.specs.Decimal.{decimal}
 use Rattle.text_format.specs.Fields.{field, fields}
 use Rattle.text_format.proofs.Puts.{Put, Left, put-behind, left-behind, none-left, no-fields, more-fields}
@@ -53,30 +54,38 @@ module _ (t t₁ t₂ t₃ t₄ t₅ t₆ : List ℕ) (at r₁ r₂ r₃ r₄ r�
       let six = put-behind t t₅ t₆ (decimal k ++ field which ++ field d ++ field c ++ fields p) (10 ∷ []) at r₅ r₆ five newline in
       rw (granted-bytes k which d c p) six
 
--- ---- the loop of `put_lines`
-no-lines : (area : List ℕ) (n k : ℕ) → linesFrom area n k 0 ≡ []
-unfolding linesFrom
-no-lines area n k = refl
+-- ---- the loop of `put_lines`, for the classes of a table
+module _ (rows area : List ℕ) (n : ℕ) where
+  no-lines : (k : ℕ) → linesFrom rows area n k 0 ≡ []
+  unfolding linesFrom
+  no-lines k = refl
 
-more-lines : (area : List ℕ) (n k c : ℕ) → linesFrom area n k (suc c) ≡ classLine area n k ++ linesFrom area n (suc k) c
-unfolding linesFrom
-more-lines area n k c = refl
+  more-lines : (k c : ℕ) → linesFrom rows area n k (suc c) ≡ classLine rows area n k ++ linesFrom rows area n (suc k) c
+  unfolding linesFrom
+  more-lines k c = refl
 
--- before the first turn all lines are left to put
-pub lines-none : (area t : List ℕ) (n : ℕ) → Left t 0 (linesFrom area n 0 (6 - 0)) (sets t 0 (lines area n)) (length (lines area n))
-unfolding lines
-lines-none area t n = (refl, zero-add (length (linesFrom area n 0 6)))
+  -- the lines that are left when those of k classes are put
+  abbrev pub linesLeft : ℕ → List ℕ
+  linesLeft k = linesFrom rows area n k (rowsIn rows - k)
 
-pub lines-turn : (area t t' done : List ℕ) (n at r end k : ℕ) → k < 6 → PutLine t at (classLine area n k) t' r
-    → Left t at (linesFrom area n k (6 - k)) done end → Left t' r (linesFrom area n (k + 1) (6 - (k + 1))) done end
-lines-turn area t t' done n at r end k low put left =
-    let e : 6 - k ≡ suc (6 - (k + 1)) = omega arith in
-    let one : linesFrom area n k (6 - k) ≡ classLine area n k ++ linesFrom area n (k + 1) (6 - (k + 1)) =
-    ap (linesFrom area n k) e ∙ more-lines area n k (6 - (k + 1)) ∙ rw add-one in
-    left-behind t t' (classLine area n k) (linesFrom area n (k + 1) (6 - (k + 1))) done at r end (put .0 .0, put .1)
-    (subst (λ (b : List ℕ). Left t at b done end) one left)
+  -- before the first turn all lines are left to put
+  pub lines-none : (t : List ℕ) → Left t 0 (linesLeft 0) (sets t 0 (lines rows area n)) (length (lines rows area n))
+  unfolding lines
+  lines-none t =
+      let e : rowsIn rows ≡ rowsIn rows - 0 = omega arith in
+      subst (λ (c : ℕ). Left t 0 (linesFrom rows area n 0 c) (sets t 0 (lines rows area n)) (length (lines rows area n))) e
+      (refl, zero-add (length (linesFrom rows area n 0 (rowsIn rows))))
 
-pub lines-end : (area t done : List ℕ) (n at end k : ℕ) → 6 ≤ k → Left t at (linesFrom area n k (6 - k)) done end → (at ≡ end) × (t ≡ done)
-lines-end area t done n at end k high left =
-    let e : 6 - k ≡ 0 = omega arith in
-    none-left t done at end (subst (λ (b : List ℕ). Left t at b done end) (ap (linesFrom area n k) e ∙ no-lines area n k) left)
+  pub lines-turn : (t t' done : List ℕ) (at r end k : ℕ) → k < rowsIn rows → PutLine t at (classLine rows area n k) t' r
+      → Left t at (linesLeft k) done end → Left t' r (linesLeft (k + 1)) done end
+  lines-turn t t' done at r end k low put left =
+      let e : rowsIn rows - k ≡ suc (rowsIn rows - (k + 1)) = omega arith in
+      let one : linesLeft k ≡ classLine rows area n k ++ linesLeft (k + 1) =
+      ap (linesFrom rows area n k) e ∙ more-lines k (rowsIn rows - (k + 1)) ∙ rw add-one in
+      left-behind t t' (classLine rows area n k) (linesLeft (k + 1)) done at r end (put .0 .0, put .1)
+      (subst (λ (b : List ℕ). Left t at b done end) one left)
+
+  pub lines-end : (t done : List ℕ) (at end k : ℕ) → rowsIn rows ≤ k → Left t at (linesLeft k) done end → (at ≡ end) × (t ≡ done)
+  lines-end t done at end k high left =
+      let e : rowsIn rows - k ≡ 0 = omega arith in
+      none-left t done at end (subst (λ (b : List ℕ). Left t at b done end) (ap (linesFrom rows area n k) e ∙ no-lines k) left)

@@ -60,21 +60,22 @@ module _ (k l : ℕ) (g : Grant) (buffer after : List ℕ) (wide : l ≡ g .link
   reply-granted (refuses number) e written = absurd (zero-one cc)
   reply-granted (grants b) e written = granted-written b (cc) written
 
--- ---- a class
-class-line : (area : List ℕ) (n k : ℕ) → classLine area n k ≡ answeredLine area n k (classAnswer k)
-unfolding classLine
-class-line area n k = refl
+-- ---- a class of a table
+module _ (rows area : List ℕ) (n k : ℕ) where
+  class-line : classLine rows area n k ≡ answeredLine area n k (classAnswer rows k)
+  unfolding classLine
+  class-line = refl
 
-refused-row : (area : List ℕ) (n k j : ℕ) → answeredLine area n k (asked.Refused j) ≡ replyLine k (refuses j)
-unfolding answeredLine
-refused-row area n k j = refl
+  refused-row : (j : ℕ) → answeredLine area n k (asked.Refused j) ≡ replyLine k (refuses j)
+  unfolding answeredLine
+  refused-row j = refl
 
-asked-row : (area : List ℕ) (n k : ℕ) (s : Service) → answeredLine area n k (asked.Row s) ≡ quoteLine area n k s
-unfolding answeredLine
-asked-row area n k s = refl
+  asked-row : (s : Service) → answeredLine area n k (asked.Row s) ≡ quoteLine area n k s
+  unfolding answeredLine
+  asked-row s = refl
 
-pub class-refused : (area : List ℕ) (n k j : ℕ) → asked.Refused j ≡ classAnswer k → classLine area n k ≡ line k (0 ∷ j ∷ [])
-class-refused area n k j e = class-line area n k ∙ ap (answeredLine area n k) (sym e) ∙ refused-row area n k j ∙ refuses-line k j
+  pub class-refused : (j : ℕ) → asked.Refused j ≡ classAnswer rows k → classLine rows area n k ≡ line k (0 ∷ j ∷ [])
+  class-refused j e = class-line ∙ ap (answeredLine area n k) (sym e) ∙ refused-row j ∙ refuses-line k j
 
-pub class-row : (area : List ℕ) (n k : ℕ) (s : Service) → asked.Row s ≡ classAnswer k → classLine area n k ≡ quoteLine area n k s
-class-row area n k s e = class-line area n k ∙ ap (answeredLine area n k) (sym e) ∙ asked-row area n k s
+  pub class-row : (s : Service) → asked.Row s ≡ classAnswer rows k → classLine rows area n k ≡ quoteLine area n k s
+  class-row s e = class-line ∙ ap (answeredLine area n k) (sym e) ∙ asked-row s

@@ -18,6 +18,8 @@ use Rattle.link_format.specs.declared.Size.{Size}
 use Rattle.link_format.specs.declared.FileAnswer.the-variants as file
 use Rattle.link_format.specs.Reading.{readAnswer, recordWords, tableRead, linksIn}
 use Rattle.link_format.proofs.Accepted.{records-length, size-read, table-accepted}
+use Rattle.rules.specs.ClassTable.{rowsIn}
+use Rattle.rules.specs.SampleClasses.{sample}
 use Rattle.text_format.specs.Fields.{field, fields}
 use Rattle.text_format.proofs.Puts.{Put, put-behind, no-fields, more-fields}
 use Rattle.class_format.specs.Lines.{lines}
@@ -55,21 +57,29 @@ module _ (n : ℕ) (links : List ℕ) where
   unfolding loadingOutput
   refused-prints area k = refl
 
-  loaded-prints : (area : List ℕ) → loadingOutput area n loading.Loaded ≡ lines area n
+  loaded-prints : (area : List ℕ) → loadingOutput area n loading.Loaded ≡ lines sample area n
   unfolding loadingOutput
   loaded-prints area = refl
 
   pub load-refused : (k : ℕ) → loading.Refused k ≡ loadAnswer blank n links → loadOutput n links ≡ refusal loadWord k
   load-refused k e = load-prints ∙ ap (loadingOutput (areaLoaded blank n links) n) (sym e) ∙ refused-prints (areaLoaded blank n links) k
 
-  pub load-accepted : loading.Loaded ≡ loadAnswer blank n links → loadOutput n links ≡ lines (areaLoaded blank n links) n
-  load-accepted e = load-prints ∙ ap (loadingOutput (areaLoaded blank n links) n) (sym e) ∙ loaded-prints (areaLoaded blank n links)
+  -- by the area and the table that the code lends
+  pub load-accepted : (area rows : List ℕ) → loading.Loaded ≡ loadAnswer blank n links → area ≡ areaLoaded blank n links → rows ≡ sample
+      → loadOutput n links ≡ lines rows area n
+  load-accepted area rows e loaded is =
+      rw (loaded, is)
+      (load-prints ∙ ap (loadingOutput (areaLoaded blank n links) n) (sym e) ∙ loaded-prints (areaLoaded blank n links))
 
   -- an area is loaded only with two nodes or more
   pub some-nodes : loading.Loaded ≡ loadAnswer blank n links → 1 ≤ n
   some-nodes e =
       let formed = accepted-formed blank n links (sym e) in
       omega (arith, formed .sound .table .«nodes-least», ap (λ (s : Station). s .table .nodes) (accepted-station blank n links (sym e)))
+
+-- the text of 4,096 bytes has room for the sample table's lines, of at most 385 bytes each
+pub sample-fits : {rows : List ℕ} → rows ≡ sample → 385 * rowsIn rows ≤ 4096
+sample-fits e = rw e (omega arith)
 
 -- ---- what a file prints
 module _ (f : List ℕ) where

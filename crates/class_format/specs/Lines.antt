@@ -3,12 +3,12 @@
 use Prim.Native.Nat.{ℕ, zero, suc, _-_}
 use mathlib.Core.List.{List, [], _∷_, _++_}
 use Rattle.network.specs.Limits.{pathWords, workWords}
-use Rattle.network.specs.Reduce.{asking}
 use Rattle.network.specs.declared.Request.{Request}
 use Rattle.area.specs.Refusals.{refuses, grants}
 use Rattle.rules.specs.declared.Service.{Service}
 use Rattle.rules.specs.declared.ClassAnswer.{ClassAnswer}
 use Rattle.rules.specs.declared.ClassAnswer.the-variants.{Refused, Row}
+use Rattle.rules.specs.ClassTable.{rowsIn, requestBetween}
 use Rattle.rules.specs.Classes.{classAnswer}
 use Rattle.rules.specs.Replies.{PathReply}
 use Rattle.rules.specs.Calls.{quote}
@@ -28,7 +28,7 @@ replyLine k (grants g) = line k (g .problem ∷ g .delay ∷ g .cost ∷ g .path
 
 -- what a class asks for, from node 0 to n - 1
 unfoldable pub requestOf : ℕ → Service → Request
-requestOf n s = asking 0 (n - 1) (s .units) (s .«delay_bound») (s .«cost_bound») (s .coefficient)
+requestOf n s = requestBetween 0 (n - 1) s
 
 -- the line of class k with the row s, quoted on an area of n nodes
 unfoldable pub quoteLine : List ℕ → ℕ → ℕ → Service → List ℕ
@@ -41,17 +41,18 @@ unfolding replyLine quoteLine
 answeredLine area n k (Refused number) = replyLine k (refuses number)
 answeredLine area n k (Row s) = quoteLine area n k s
 
-unfoldable pub classLine : List ℕ → ℕ → ℕ → List ℕ
+-- the line of class k of a class table
+unfoldable pub classLine : List ℕ → List ℕ → ℕ → ℕ → List ℕ
 unfolding answeredLine classAnswer
-classLine area n k = answeredLine area n k (classAnswer k)
+classLine rows area n k = answeredLine area n k (classAnswer rows k)
 
 -- those of c classes from k on
-unfoldable pub linesFrom : List ℕ → ℕ → ℕ → ℕ → List ℕ
+unfoldable pub linesFrom : List ℕ → List ℕ → ℕ → ℕ → ℕ → List ℕ
 unfolding classLine
-linesFrom area n k zero = []
-linesFrom area n k (suc c) = classLine area n k ++ linesFrom area n (suc k) c
+linesFrom rows area n k zero = []
+linesFrom rows area n k (suc c) = classLine rows area n k ++ linesFrom rows area n (suc k) c
 
--- document 01's six classes
-unfoldable pub lines : List ℕ → ℕ → List ℕ
+-- those of all its rows
+unfoldable pub lines : List ℕ → List ℕ → ℕ → List ℕ
 unfolding linesFrom
-lines area n = linesFrom area n 0 6
+lines rows area n = linesFrom rows area n 0 (rowsIn rows)

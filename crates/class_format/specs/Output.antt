@@ -12,6 +12,7 @@ use Rattle.area.specs.Load.{loadAnswer, areaLoaded}
 use Rattle.link_format.specs.declared.FileAnswer.{FileAnswer}
 use Rattle.link_format.specs.declared.FileAnswer.the-variants as file
 use Rattle.link_format.specs.Reading.{readAnswer, recordWords}
+use Rattle.rules.specs.SampleClasses.{sample}
 use Rattle.text_format.specs.Fields.{fields}
 use Rattle.class_format.specs.Lines.{lines}
 
@@ -34,11 +35,11 @@ refusal word number = word ++ fields (number ∷ []) ++ 10 ∷ []
 unfoldable pub blank : List ℕ
 blank = replicate areaWords 0
 
--- a refused load prints only that; else a line for each class, quoted on the area that was loaded
+-- a refused load prints only that; else a line for each class of the sample table, quoted on the area that was loaded
 unfoldable pub loadingOutput : List ℕ → ℕ → Loading → List ℕ
 unfolding refusal lines
 loadingOutput area n (loading.Refused number) = refusal loadWord number
-loadingOutput area n loading.Loaded = lines area n
+loadingOutput area n loading.Loaded = lines sample area n
 
 unfoldable pub loadOutput : ℕ → List ℕ → List ℕ
 unfolding loadingOutput areaLoaded loadAnswer blank

@@ -1,13 +1,15 @@
-// The lines of the class program, one for each class, as bytes. A line has at most 34 fields behind the class, so at most
-// 385 bytes: the functions require room for a line, and the text has room for six. Only `class_quotes` calls them.
+// The lines of the class program, one for each class of a class table, as bytes. A line has at most 34 fields behind the class,
+// so at most 385 bytes: the functions require room for a line, and `put_lines` for each row's. Only `class_quotes` calls them.
 ghost use mathlib.Core.Path.{_≡_};
 ghost use mathlib.Core.List.{[], _∷_};
-ghost use Prim.Native.Nat.{_+_, _≤_};
+ghost use Prim.Native.Nat.{_+_, _*_, _≤_};
 ghost use lib.ListN.{length};
 ghost use lib.Seq.{sets};
 ghost use Rattle.network.specs.Limits.{pathWords};
+ghost use Rattle.rules.specs.ClassTable.{rowsIn};
 ghost use Rattle.class_format.specs.Lines.{line, requestOf, quoteLine, classLine, lines};
 use booking::quote::quote;
+use classes::table::ROW_WORDS;
 use links::link;
 use network::Grant;
 use network::Request;
@@ -82,36 +84,39 @@ fn put_quote(
     }
 }
 
-// The line of class `k`.
+// The line of class `k` of the table `rows`.
 fn put_class(
     text: &mut [u8; 4096],
     at: usize,
     area: &[u32],
     work: &mut [u32; WORK_WORDS],
     n: u32,
+    rows: &[u32],
     k: u32,
 ) -> usize
     requires { ⌜ (at + 385 ≤ 4096) × (1 ≤ n) ⌝ }
-    ensures end { λ r. ⌜ (r ≡ at + length (classLine (now (area .entry)) n k)) × (r ≤ at + 385) × (r ≤ length (now (text .exit))) ⌝ }
-    ensures text { λ _. ⌜ now (text .exit) ≡ sets (now (text .entry)) at (classLine (now (area .entry)) n k) ⌝ }
+    ensures end { λ r. ⌜ (r ≡ at + length (classLine (now (rows .entry)) (now (area .entry)) n k)) × (r ≤ at + 385) × (r ≤ length (now (text .exit))) ⌝ }
+    ensures text { λ _. ⌜ now (text .exit) ≡ sets (now (text .entry)) at (classLine (now (rows .entry)) (now (area .entry)) n k) ⌝ }
 {
-    let asked = classes::class(k);
+    let asked = classes::class(rows, k);
     match asked {
         rules::ClassAnswer::Refused(j) => put_refused(text, at, k, j),
         rules::ClassAnswer::Row(s) => put_quote(text, at, area, work, n, k, s),
     }
 }
 
-// The lines of the six classes. The caller has loaded the area with n nodes, which are at least two.
-pub fn put_lines(text: &mut [u8; 4096], area: &[u32], n: u32) -> usize
-    requires { ⌜ 1 ≤ n ⌝ }
-    ensures end { λ r. ⌜ (r ≡ length (lines (now (area .entry)) n)) × (r ≤ length (now (text .exit))) ⌝ }
-    ensures text { λ _. ⌜ now (text .exit) ≡ sets (now (text .entry)) 0 (lines (now (area .entry)) n) ⌝ }
+// The lines of all classes of the table `rows`. The caller has loaded the area with n nodes, which are at least two, and lends
+// a table whose lines the text has room for.
+pub fn put_lines(text: &mut [u8; 4096], area: &[u32], n: u32, rows: &[u32]) -> usize
+    requires { ⌜ (1 ≤ n) × (385 * rowsIn (now rows) ≤ 4096) ⌝ }
+    ensures end { λ r. ⌜ (r ≡ length (lines (now (rows .entry)) (now (area .entry)) n)) × (r ≤ length (now (text .exit))) ⌝ }
+    ensures text { λ _. ⌜ now (text .exit) ≡ sets (now (text .entry)) 0 (lines (now (rows .entry)) (now (area .entry)) n) ⌝ }
 {
     let mut work = [0u32; WORK_WORDS];
     let mut at = 0;
-    for k in 0..6 {
-        at = put_class(text, at, area, &mut work, n, k);
+    let count = rows.len() / ROW_WORDS;
+    for k in 0..count {
+        at = put_class(text, at, area, &mut work, n, rows, k as u32);
     }
     at
 }

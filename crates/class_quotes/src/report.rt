@@ -7,6 +7,7 @@ ghost use Rattle.io.specs.Counts.{Counts};
 ghost use Rattle.class_format.specs.Output.{refusal, loadOutput, fileOutput, output};
 use crate::lines::put_lines;
 use area::Loading;
+use classes::sample::sample;
 use link_format::FileAnswer;
 use links::link;
 use network::limits::LINK_WORDS;
@@ -24,7 +25,8 @@ fn put_refusal(text: &mut [u8; 4096], word: &[u8; 4], k: u32) -> usize
     text::put(text, at, b"\n")
 }
 
-// What is printed for n and a table of links: they are loaded into a fresh area, and each class is quoted there.
+// What is printed for n and a table of links: they are loaded into a fresh area, and each class of the sample table is quoted
+// there.
 fn put_quotes(text: &mut [u8; 4096], n: u32, links: &[u32]) -> usize
     ensures end { λ r. ⌜ (r ≡ length (loadOutput n (now (links .entry)))) × (r ≤ length (now (text .exit))) ⌝ }
     ensures text { λ _. ⌜ now (text .exit) ≡ sets (now (text .entry)) 0 (loadOutput n (now (links .entry))) ⌝ }
@@ -33,7 +35,7 @@ fn put_quotes(text: &mut [u8; 4096], n: u32, links: &[u32]) -> usize
     let loading = load(n, links, &mut area);
     match loading {
         Loading::Refused(k) => put_refusal(text, b"load", k),
-        Loading::Loaded => put_lines(text, &area, n),
+        Loading::Loaded => put_lines(text, &area, n, &sample()),
     }
 }
 

@@ -27,10 +27,11 @@ use Rattle.area.specs.Reads.{listAnswer, listed, freeAnswer}
 use Rattle.rules.specs.declared.RequestAnswer.the-variants as request
 use Rattle.rules.specs.declared.ReleaseAnswer.the-variants as release
 use Rattle.rules.specs.declared.Service.{Service}
+use Rattle.rules.specs.declared.CheckAnswer.the-variants as check
 use Rattle.rules.specs.declared.ClassAnswer.the-variants as class
 use Rattle.rules.specs.Replies.{PathGrant, PathReply, answerOf, pathOf, pathAfter, ReleaseReply, releaseAnswerOf}
 use Rattle.rules.specs.Calls as calls
-use Rattle.rules.specs.Classes.{classAnswer}
+use Rattle.rules.specs.Classes.{checkAnswer, classAnswer}
 use Rattle.rules.specs.Allowed.{Grant, searchRules, requestRules, numberRules, releaseRules}
 use Rattle.link_format.specs.declared.Size.{Size}
 use Rattle.link_format.specs.declared.FileAnswer.the-variants as file
@@ -76,9 +77,14 @@ module _ (demand : FirstDemand) where
       ⊎ ((number : ℕ) × (memb number (5 ∷ 15 ∷ []) ≡ true) × (freeAnswer w i ≡ value.Refused number) × Unit {0})
   free-decided = demand .free-units
 
-  pub class-decided : (c : ℕ)
-      → ((s : Service) × (classAnswer c ≡ class.Row s))
-      ⊎ ((number : ℕ) × (memb number (16 ∷ []) ≡ true) × (classAnswer c ≡ class.Refused number) × Unit {0})
+  pub check-classes-decided : (rows : List ℕ)
+      → (checkAnswer rows ≡ check.Accepted)
+      ⊎ ((number : ℕ) × (memb number (20 ∷ 21 ∷ []) ≡ true) × (checkAnswer rows ≡ check.Refused number) × Unit {0})
+  check-classes-decided = demand .check-classes
+
+  pub class-decided : (rows : List ℕ) (k : ℕ)
+      → ((s : Service) × (classAnswer rows k ≡ class.Row s))
+      ⊎ ((number : ℕ) × (memb number (20 ∷ 21 ∷ 16 ∷ []) ≡ true) × (classAnswer rows k ≡ class.Refused number) × Unit {0})
   class-decided = demand .class
 
   pub file-decided : (f t : List ℕ)

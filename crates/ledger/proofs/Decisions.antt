@@ -8,12 +8,12 @@ use mathlib.Core.Bool.{true, or-true}
 use mathlib.Core.List.{List, [], _∷_, _++_, map}
 use mathlib.Core.Logic.{inl, inr}
 use native.Mathlib.Omega.{arith}
-use lib.Dec.{eqb, leb}
+use lib.Dec.{eqb}
 use lib.ListN.{length}
 use borrow.Author.Tests.{eq-eqb}
 use Rattle.network.specs.Lists.{memb}
 use Rattle.network.specs.declared.Grant.{Grant as Numbers}
-use Rattle.network.proofs.Tests.{by-test, by-bool}
+use Rattle.network.proofs.Tests.{by-bool}
 use Rattle.area.specs.Refusals.{Rule, _when_, refuses, grants, Answered}
 use Rattle.area.specs.Formed.{WellFormed}
 use Rattle.area.specs.Checks.{Check, firstFailing, unlessRefused, checked}
@@ -27,12 +27,14 @@ use Rattle.rules.specs.declared.RequestAnswer.{RequestAnswer}
 use Rattle.rules.specs.declared.RequestAnswer.the-variants as request
 use Rattle.rules.specs.declared.ReleaseAnswer.{ReleaseAnswer}
 use Rattle.rules.specs.declared.ReleaseAnswer.the-variants as release
+use Rattle.rules.specs.declared.CheckAnswer.{CheckAnswer}
+use Rattle.rules.specs.declared.CheckAnswer.the-variants as check
 use Rattle.rules.specs.declared.ClassAnswer.{ClassAnswer}
 use Rattle.rules.specs.declared.ClassAnswer.the-variants as class
 use Rattle.rules.specs.declared.Service.{Service}
 use Rattle.rules.specs.Replies.{PathGrant, PathReply, answerOf, pathAfter, ReleaseReply, releaseAnswerOf}
 use Rattle.rules.specs.Calls as calls
-use Rattle.rules.specs.Classes.{classAnswer}
+use Rattle.rules.specs.Classes.{tableChecks, classChecks, checkAnswer, classAnswer}
 use Rattle.rules.specs.Allowed.{numberRules, releaseRules, searchRules}
 use Rattle.rules.specs.Meaning.{booksIn, quoteRules, netFor}
 use Rattle.rules.proofs.Meaning.{quote-means, admission-means, release-means}
@@ -90,7 +92,7 @@ release-decided rs Kept keeps (grants _) h = inl refl
 
 -- ---- the calls
 pub every-call-decided : FirstDemand
-unfolding loadAnswer areaLoaded listAnswer listed freeAnswer classAnswer readAnswer tableRead pathAfter calls.booked calls.cleared
+unfolding loadAnswer areaLoaded listAnswer listed freeAnswer checkAnswer classAnswer readAnswer tableRead pathAfter calls.booked calls.cleared
 every-call-decided =
     record {
       load = λ w n links.
@@ -114,10 +116,10 @@ every-call-decided =
           by-checks (λ (a : ValueAnswer). (h : ℕ) × (a ≡ value.Value h)) value.Refused (listChecks w (length l)) _ (_, refl) l _;
       free-units = λ w i.
           without-words (λ (a : ValueAnswer). (u : ℕ) × (a ≡ value.Value u)) value.Refused (freeChecks w i) _ (_, refl);
-      class = λ c.
-          by-test (leb c 5) _ _ (Decided (λ (a : ClassAnswer). (s : Service) × (a ≡ class.Row s)) class.Refused (16 ∷ []) (Unit {0}))
-          (λ _. inl (_, refl))
-          (λ _. inr (16, refl, refl, tt));
+      check-classes = λ rows.
+          without-words (λ (a : CheckAnswer). a ≡ check.Accepted) check.Refused (tableChecks rows) check.Accepted refl;
+      class = λ rows k.
+          without-words (λ (a : ClassAnswer). (s : Service) × (a ≡ class.Row s)) class.Refused (classChecks rows k) _ (_, refl);
       link-file = λ f t.
           by-checks (λ (a : FileAnswer). (s : Size) × (a ≡ file.Table s)) file.Refused (readChecks f (length t)) _ (_, refl) t _;
     }

@@ -23,10 +23,11 @@ use Rattle.area.specs.Reads.{listAnswer, listed, freeAnswer}
 use Rattle.rules.specs.declared.Service.{Service}
 use Rattle.rules.specs.declared.RequestAnswer.the-variants as request
 use Rattle.rules.specs.declared.ReleaseAnswer.the-variants as release
+use Rattle.rules.specs.declared.CheckAnswer.the-variants as check
 use Rattle.rules.specs.declared.ClassAnswer.the-variants as class
 use Rattle.rules.specs.Replies.{PathGrant, PathReply, answerOf, pathAfter, releaseAnswerOf}
 use Rattle.rules.specs.Calls as calls
-use Rattle.rules.specs.Classes.{classAnswer}
+use Rattle.rules.specs.Classes.{checkAnswer, classAnswer}
 use Rattle.link_format.specs.declared.Size.{Size}
 use Rattle.link_format.specs.declared.FileAnswer.the-variants as file
 use Rattle.link_format.specs.Reading.{readAnswer, tableRead}
@@ -42,8 +43,9 @@ abbrev pub Decided : {A : Type 0} → (A → Type 0) → (ℕ → A) → List �
 Decided Granted refused numbers Kept a = Granted a ⊎ ((k : ℕ) × (memb k numbers ≡ true) × (a ≡ refused k) × Kept)
 
 -- Each call by the definitions that its contract cites, on any words w, l and t of its area, its path buffer or list and
--- its table, and any numbers. The numbers are those that document 01 gives for the call, in its order. A call that is lent
--- words to read alone keeps them by its type: a quote, a listing and free units the area.
+-- its table, and any numbers. The numbers are those that the papers give for the call, in their order. A call that is lent
+-- words to read alone keeps them by its type: a quote, a listing and free units the area, the check of a class table and a class
+-- the table's rows.
 pub record FirstDemand : Type 0 where
   pub load : (w : List ℕ) (n : ℕ) (links : List ℕ)
       → Decided (λ a. a ≡ loading.Loaded) loading.Refused (1 ∷ 2 ∷ 3 ∷ 4 ∷ []) (areaLoaded w n links ≡ w) (loadAnswer w n links)
@@ -61,7 +63,9 @@ pub record FirstDemand : Type 0 where
       → Decided (λ a. (h : ℕ) × (a ≡ value.Value h)) value.Refused (5 ∷ 14 ∷ []) (listed w l ≡ l) (listAnswer w (length l))
   pub free-units : (w : List ℕ) (i : ℕ)
       → Decided (λ a. (u : ℕ) × (a ≡ value.Value u)) value.Refused (5 ∷ 15 ∷ []) (Unit {0}) (freeAnswer w i)
-  pub class : (c : ℕ) → Decided (λ a. (s : Service) × (a ≡ class.Row s)) class.Refused (16 ∷ []) (Unit {0}) (classAnswer c)
+  pub check-classes : (rows : List ℕ) → Decided (λ a. a ≡ check.Accepted) check.Refused (20 ∷ 21 ∷ []) (Unit {0}) (checkAnswer rows)
+  pub class : (rows : List ℕ) (k : ℕ)
+      → Decided (λ a. (s : Service) × (a ≡ class.Row s)) class.Refused (20 ∷ 21 ∷ 16 ∷ []) (Unit {0}) (classAnswer rows k)
   pub link-file : (f t : List ℕ)
       → Decided (λ a. (s : Size) × (a ≡ file.Table s)) file.Refused (17 ∷ 18 ∷ 19 ∷ []) (tableRead f t ≡ t) (readAnswer f (length t))
 

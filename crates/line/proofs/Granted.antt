@@ -1,7 +1,7 @@
 -- What a C caller relies on: a call gives 0 only where it was granted, and else the number of a refusal that left the answer
--- array as it was. A refusal by a call's checks has a number over 0 by the definition of `checked`; every rule by which
--- quote, admission, release and listing are refused has one; and a class is refused with 16. That a grant gives 0 is how the
--- codes are defined.
+-- array as it was. A refusal by a call's checks has a number over 0 by the definition of `checked`, and every rule by which
+-- quote, admission, release, listing, the check of a class table and the class call are refused has one. That a grant gives 0
+-- is how the codes are defined.
 -- Assumes nothing.
 use Prim.Native.Nat.{ℕ, zero, suc, _<_}
 use mathlib.Core.Path.{_≡_, refl, sym, subst}
@@ -9,12 +9,12 @@ use mathlib.Core.Bool.{Bool, true, _&&_}
 use mathlib.Core.List.{List, [], _∷_, _++_}
 use mathlib.Core.Logic.{inl, inr}
 use native.Mathlib.Omega.{arith}
-use lib.Dec.{ltb, leb}
-use lib.ListN.{length, getD}
+use lib.Dec.{ltb}
+use lib.ListN.{length}
 use borrow.Author.Tests.{ltb-true}
 use Rattle.network.specs.declared.Request.{Request}
 use Rattle.network.specs.declared.Grant.{Grant as Numbers}
-use Rattle.network.proofs.Tests.{by-test, fst-of, snd-of, zero-one}
+use Rattle.network.proofs.Tests.{fst-of, snd-of, zero-one}
 use Rattle.area.specs.Station.{station}
 use Rattle.area.specs.Books.{free}
 use Rattle.area.specs.Held.{ListsHeld}
@@ -31,9 +31,13 @@ use Rattle.rules.specs.declared.RequestAnswer.{RequestAnswer}
 use Rattle.rules.specs.declared.RequestAnswer.the-variants as request
 use Rattle.rules.specs.declared.ReleaseAnswer.{ReleaseAnswer}
 use Rattle.rules.specs.declared.ReleaseAnswer.the-variants as release
+use Rattle.rules.specs.declared.Service.{Service}
+use Rattle.rules.specs.declared.CheckAnswer.{CheckAnswer}
+use Rattle.rules.specs.declared.CheckAnswer.the-variants as check
 use Rattle.rules.specs.declared.ClassAnswer.{ClassAnswer}
 use Rattle.rules.specs.declared.ClassAnswer.the-variants as class
-use Rattle.rules.specs.Classes.{asks, rows, classAnswer}
+use Rattle.rules.specs.ClassTable.{ClassTable}
+use Rattle.rules.specs.Classes.{tableRules, classRules, CheckMeans, ClassMeans}
 use Rattle.rules.specs.Replies.{PathGrant, PathReply, answerOf, ReleaseReply, releaseAnswerOf}
 use Rattle.rules.specs.Allowed.{Grant, searchRules, numberRules, releaseRules}
 use Rattle.rules.specs.Meaning.{booksIn, quoteRules, netFor, Cleared, QuoteMeans, AdmissionMeans, ReleaseMeans}
@@ -41,8 +45,8 @@ use Rattle.link_format.specs.declared.Size.{Size}
 use Rattle.link_format.specs.declared.FileAnswer.{FileAnswer}
 use Rattle.link_format.specs.declared.FileAnswer.the-variants as file
 use Rattle.link_format.specs.Reading.{readChecks, readAnswer, linksIn as fileLinks, nodesIn}
-use Rattle.line.specs.Codes.{answerCode, grantWords, releaseCode, loadCode, valueCode, valueWord, classCode, fileCode}
-use Rattle.line.specs.Meaning.{TellsGrant, QuoteTells, AdmissionTells, ReleaseTells, ListTells}
+use Rattle.line.specs.Codes.{answerCode, grantWords, releaseCode, loadCode, valueCode, valueWord, checkCode, classCode, termsWords, fileCode}
+use Rattle.line.specs.Meaning.{TellsWords, QuoteTells, AdmissionTells, ReleaseTells, ListTells, CheckTells, ClassTells}
 
 -- ---- a list of checks
 -- a refusal's code is its number, which is over 0: the code 0 comes past the checks
@@ -70,15 +74,7 @@ free-granted w i =
     (value.Value (free (station w) i))
     (λ e. refl)
 
--- ---- class
-pub class-granted : (i : ℕ) → classCode (classAnswer i) ≡ 0 → classAnswer i ≡ class.Row (getD rows i (asks 0 0 0 0))
-unfolding classAnswer classCode
-class-granted i =
-    by-test (leb i 5) _ _ (λ (a : ClassAnswer). classCode a ≡ 0 → a ≡ class.Row (getD rows i (asks 0 0 0 0)))
-    (λ _ e. refl)
-    (λ _ e. absurd (omega arith))
-
--- ---- quote, admission, release and listing, by what their C functions' clauses `means` say of code, words and array
+-- ---- quote, admission, release, listing and the calls on class tables, by what their C functions' clauses `means` say of code, words and array
 -- every rule's number is over 0
 abbrev numbered : List Rule → Bool
 numbered [] = true
@@ -91,7 +87,7 @@ refused-over (r ∷ rs) over k (inl h) = omega (arith, ltb-true 0 (r .number) (f
 refused-over (r ∷ rs) over k (inr h) = refused-over rs (snd-of (ltb 0 (r .number)) _ over) k (h .1)
 
 -- an answer of which P holds, where P holds of no refusal with 0: the code 0 tells a grant, and its numbers are in the array
-granted-tells : (P : RequestAnswer → Type 0) → ((k : ℕ) → P (request.Refused k) → 0 < k) → (v v' : List ℕ) → TellsGrant P 0 v v'
+granted-tells : (P : RequestAnswer → Type 0) → ((k : ℕ) → P (request.Refused k) → 0 < k) → (v v' : List ℕ) → TellsWords answerCode grantWords P 0 v v'
     → (g : Numbers) × P (request.Granted g) × (v' ≡ g .problem ∷ g .delay ∷ g .cost ∷ g .links ∷ [])
 unfolding answerCode grantWords
 granted-tells P over v v' h = go (h .answer) (h .means) (h .code) (h .words)
@@ -102,7 +98,7 @@ granted-tells P over v v' h = go (h .answer) (h .means) (h .code) (h .words)
     go (request.Granted g) means code words = (g, means, words)
 
 -- and another code is the number of a refusal, which leaves the array as it was
-refused-tells : (P : RequestAnswer → Type 0) (k : ℕ) → 0 < k → (v v' : List ℕ) → TellsGrant P k v v' → P (request.Refused k) × (v' ≡ v)
+refused-tells : (P : RequestAnswer → Type 0) (k : ℕ) → 0 < k → (v v' : List ℕ) → TellsWords answerCode grantWords P k v v' → P (request.Refused k) × (v' ≡ v)
 unfolding answerCode grantWords
 refused-tells P k some v v' h = go (h .answer) (h .means) (h .code) (h .words)
   where
@@ -188,6 +184,43 @@ module _ (w l v l' v' : List ℕ) where
       go : (said : ValueAnswer) → ListMeans w l said l' → k ≡ valueCode said → v' ≡ valueWord said v → ListMeans w l (value.Refused k) l' × (v' ≡ v)
       go (value.Refused j) means code words = (subst (λ (i : ℕ). ListMeans w l (value.Refused i) l') (sym code) means, words)
       go (value.Value h) means code words = absurd (omega (arith, some, code))
+
+module _ (rows : List ℕ) where
+  pub check-granted : CheckTells rows 0 → ClassTable rows
+  unfolding checkCode
+  check-granted t = go (t .answer) (t .means) (t .code)
+    where
+      go : (said : CheckAnswer) → CheckMeans rows said → 0 ≡ checkCode said → ClassTable rows
+      go (check.Refused k) means code = absurd (omega (arith, refused-over (tableRules rows) refl k means, code))
+      go check.Accepted means code = means
+
+  pub check-refused : (k : ℕ) → 0 < k → CheckTells rows k → FirstApplies (tableRules rows) k
+  unfolding checkCode
+  check-refused k some t = go (t .answer) (t .means) (t .code)
+    where
+      go : (said : CheckAnswer) → CheckMeans rows said → k ≡ checkCode said → FirstApplies (tableRules rows) k
+      go (check.Refused j) means code = subst (FirstApplies (tableRules rows)) (sym code) means
+      go check.Accepted means code = absurd (omega (arith, some, code))
+
+  module _ (c : ℕ) (v v' : List ℕ) where
+    pub class-granted : ClassTells rows c v 0 v' → (s : Service) × ClassMeans rows c (class.Row s)
+        × (v' ≡ s .units ∷ s .«delay_bound» ∷ s .«cost_bound» ∷ s .coefficient ∷ [])
+    unfolding classCode termsWords
+    class-granted t = go (t .answer) (t .means) (t .code) (t .words)
+      where
+        go : (said : ClassAnswer) → ClassMeans rows c said → 0 ≡ classCode said → v' ≡ termsWords said v
+            → (s : Service) × ClassMeans rows c (class.Row s) × (v' ≡ s .units ∷ s .«delay_bound» ∷ s .«cost_bound» ∷ s .coefficient ∷ [])
+        go (class.Refused k) means code words = absurd (omega (arith, refused-over (classRules rows c) refl k means, code))
+        go (class.Row s) means code words = (s, means, words)
+
+    pub class-refused : (k : ℕ) → 0 < k → ClassTells rows c v k v' → FirstApplies (classRules rows c) k × (v' ≡ v)
+    unfolding classCode termsWords
+    class-refused k some t = go (t .answer) (t .means) (t .code) (t .words)
+      where
+        go : (said : ClassAnswer) → ClassMeans rows c said → k ≡ classCode said → v' ≡ termsWords said v
+            → FirstApplies (classRules rows c) k × (v' ≡ v)
+        go (class.Refused j) means code words = (subst (FirstApplies (classRules rows c)) (sym code) means, words)
+        go (class.Row s) means code words = absurd (omega (arith, some, code))
 
 -- ---- link file
 pub file-granted : (f : List ℕ) (table : ℕ) → fileCode (readAnswer f table) ≡ 0

@@ -11,6 +11,8 @@ use Rattle.rules.specs.declared.RequestAnswer.{RequestAnswer}
 use Rattle.rules.specs.declared.RequestAnswer.the-variants as request
 use Rattle.rules.specs.declared.ReleaseAnswer.{ReleaseAnswer}
 use Rattle.rules.specs.declared.ReleaseAnswer.the-variants as release
+use Rattle.rules.specs.declared.CheckAnswer.{CheckAnswer}
+use Rattle.rules.specs.declared.CheckAnswer.the-variants as check
 use Rattle.rules.specs.declared.ClassAnswer.{ClassAnswer}
 use Rattle.rules.specs.declared.ClassAnswer.the-variants as class
 use Rattle.link_format.specs.declared.FileAnswer.{FileAnswer}
@@ -46,15 +48,19 @@ unfoldable pub valueWord : ValueAnswer → List ℕ → List ℕ
 valueWord (value.Refused k) before = before
 valueWord (value.Value v) before = v ∷ []
 
--- ---- class
+-- ---- class tables: the check, and a class
+unfoldable pub checkCode : CheckAnswer → ℕ
+checkCode (check.Refused k) = k
+checkCode check.Accepted = 0
+
 unfoldable pub classCode : ClassAnswer → ℕ
 classCode (class.Refused k) = k
 classCode (class.Row s) = 0
 
 -- units, D, C, coefficient
-unfoldable pub rowWords : ClassAnswer → List ℕ → List ℕ
-rowWords (class.Refused k) before = before
-rowWords (class.Row s) before = s .units ∷ s .«delay_bound» ∷ s .«cost_bound» ∷ s .coefficient ∷ []
+unfoldable pub termsWords : ClassAnswer → List ℕ → List ℕ
+termsWords (class.Refused k) before = before
+termsWords (class.Row s) before = s .units ∷ s .«delay_bound» ∷ s .«cost_bound» ∷ s .coefficient ∷ []
 
 -- ---- link file
 unfoldable pub fileCode : FileAnswer → ℕ

@@ -6,7 +6,8 @@
 //
 // `replies` and `values` tell C what two calls each answer; the other modules are the functions themselves.
 mod booking_calls;
+mod class_calls;
+mod file_calls;
 mod replies;
 mod station_calls;
-mod table_calls;
 mod values;

@@ -6,3 +6,6 @@ pub mod CallCases
 pub mod Granting
 pub mod RequestCases
 pub mod Searching
+pub mod ClassTable
+pub mod Classes
+pub mod SampleClasses

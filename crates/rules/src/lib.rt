@@ -1,5 +1,5 @@
-// What quote, admission, release and the class call answer and leave, and what that means (specs/), with the laws of that
-// (proofs/): the contracts in `booking` and `classes` cite it, and the ledger reads its rules. There is no code here but
+// What quote, admission, release and the calls on class tables answer and leave, and what that means (specs/), with the laws of
+// that (proofs/): the contracts in `booking` and `classes` cite it, and the ledger reads its rules. There is no code here but
 // the answers' types.
 use network::Grant;
 
@@ -23,7 +23,13 @@ pub struct Service {
     pub coefficient: u32,
 }
 
-// What the class call answers: document 01's number, or the class's row.
+// What the check of a class table answers: the refusal's number, or accepted.
+pub enum CheckAnswer {
+    Refused(u32),
+    Accepted,
+}
+
+// What the class call answers: the refusal's number, or the class's row.
 pub enum ClassAnswer {
     Refused(u32),
     Row(Service),

@@ -13,8 +13,8 @@ const NODES: u32 = 32;
 const LINKS: u32 = 256;
 const CIRCUITS: u32 = 64;
 
-/// So many quick calls are timed in a row, and so many of the class call, which is the quickest by far. A slow one is
-/// timed alone.
+/// So many quick calls are timed in a row, and so many of the one for the sample table, which is the quickest by far. A slow
+/// one is timed alone.
 const QUICK: usize = 64;
 const QUICKEST: usize = 4096;
 
@@ -103,7 +103,10 @@ pub fn worst() -> Result<(), String> {
     row("line_load", "256 links", (QUICK, 0), &full, |area, _| line::load(NODES, &words, area))?;
     searches(&mut proved, &full)?;
     bookings(&full)?;
-    row("line_class", "the last class", (QUICKEST, 0), &[0; 4], |answer, _| line::class(5, answer))?;
+    let rows: Vec<u32> = [1, 400, 60, 8].repeat(64);
+    row("line_check_classes", "64 rows", (QUICK, 0), &rows, |rows, _| line::check_classes(rows))?;
+    row("line_class", "the last of 64 rows", (QUICK, 0), &[0; 4], |answer, _| line::class(&rows, 63, answer))?;
+    row("line_sample_classes", "", (QUICKEST, 0), &[0; 24], |answer, _| line::sample_classes(answer))?;
     row("line_read_link_file", "256 links", (QUICK, 0), &table, |table, _| {
         line::read_link_file(&file, table, &mut [0; 2])
     })

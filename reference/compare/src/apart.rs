@@ -1,4 +1,4 @@
-//! The calls that need no held area: Load, the class and the link file.
+//! The calls that need no held area: Load, those on class tables and the link file.
 
 use crate::buffer::Lent;
 use crate::memory::Memory;
@@ -7,10 +7,23 @@ use crate::tally::Tally;
 use document01::judge::require;
 use document01::{area, classes, link_file, Rules, Table};
 
-pub fn class(class: u32, memory: &mut Memory, tally: &mut Tally) -> Checked {
+pub fn check_classes(rows: &[u32], rules: Rules, memory: &mut Memory, tally: &mut Tally) -> Checked {
+    memory.lend_answer(0);
+    memory.lend_read(rows);
+    let code = line::check_classes(memory.read.slice());
+    let expected = classes::checked(rows, rules).err().unwrap_or(0);
+    refused(code, expected, memory)?;
+    memory.guarded()?;
+    tally.saw("check classes", code);
+    tally.class_table(rows, code);
+    Ok(Answer::default())
+}
+
+pub fn class(rows: &[u32], class: u32, rules: Rules, memory: &mut Memory, tally: &mut Tally) -> Checked {
     memory.lend_answer(4);
-    let code = line::class(class, memory.answer.array_mut());
-    match classes::class(class) {
+    memory.lend_read(rows);
+    let code = line::class(memory.read.slice(), class, memory.answer.array_mut());
+    match classes::class(rows, class, rules) {
         Err(number) => drop(refused(code, number, memory)?),
         Ok(row) => {
             let answered = memory.answer.array();
@@ -19,6 +32,17 @@ pub fn class(class: u32, memory: &mut Memory, tally: &mut Tally) -> Checked {
     }
     memory.guarded()?;
     tally.saw("class", code);
+    tally.class_of(class as usize, rows.len() / 4, code);
+    Ok(Answer::default())
+}
+
+pub fn sample_classes(memory: &mut Memory, tally: &mut Tally) -> Checked {
+    memory.lend_answer(24);
+    let code = line::sample_classes(memory.answer.array_mut());
+    let answered: [u32; 24] = memory.answer.array();
+    require(code == 0 && answered[..] == classes::SAMPLE.concat(), &format!("gave {code} {answered:?}"))?;
+    memory.guarded()?;
+    tally.saw("sample classes", code);
     Ok(Answer::default())
 }
 

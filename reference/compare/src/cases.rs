@@ -2,6 +2,7 @@
 //! a call leaves the others as they are.
 
 use crate::buffer::{Holds, Lent};
+use crate::class_tables;
 use crate::damage::{damage, Damage};
 use crate::files;
 use crate::nets::{net, style, Net, Style};
@@ -32,9 +33,14 @@ pub enum Call {
     FreeUnits {
         link: u32,
     },
+    CheckClasses {
+        rows: Vec<u32>,
+    },
     Class {
+        rows: Vec<u32>,
         class: u32,
     },
+    SampleClasses,
     /// On an area of its own.
     Load {
         n: u32,
@@ -129,7 +135,7 @@ fn call(rng: &mut Random, net: &Net, pool: u32) -> Call {
     match rng.range(0, 39) {
         0 => load(rng, net),
         1 => read_link_file(rng, net),
-        2 if rng.one_in(4) => Call::Class { class: rng.pick(&[0, 1, 2, 3, 4, 5, 6, 7, u32::MAX]) },
+        2 => class_tables::call(rng),
         3..=8 => {
             let damage = damage(rng, net.words.len() as u32 / 5);
             Call::Damaged { damage, call: Box::new(on_area(rng, net, pool)) }

@@ -4,7 +4,7 @@
 use document01::Rule;
 
 /// The name by which `compare --fault NAME` switches it on, and the rule that is broken.
-pub const FAULTS: [(&str, Rule); 17] = [
+pub const FAULTS: [(&str, Rule); 20] = [
     ("scaled-down", Rule::RoundUp),
     ("total-scaled-once", Rule::ScaleEachLink),
     ("problem-two-first", Rule::ProblemOneFirst),
@@ -22,4 +22,7 @@ pub const FAULTS: [(&str, Rule); 17] = [
     ("one-link-more-overqualified", Rule::Overqualified),
     ("choice-by-the-request-alone", Rule::ChoiceByUsable),
     ("first-admission-struck", Rule::QuotesAlone),
+    ("class-before-its-table", Rule::TableBeforeClass),
+    ("first-row-alone-checked", Rule::EveryRow),
+    ("full-class-table-refused", Rule::FullClassTable),
 ];

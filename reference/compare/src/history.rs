@@ -1,6 +1,6 @@
 //! A case run on the archive, then run once more with its quotes struck.
 
-use crate::apart::{class, load, read_link_file};
+use crate::apart::{check_classes, class, load, read_link_file, sample_classes};
 use crate::buffer::Buffer;
 use crate::cases::{Call, Case};
 use crate::grants::Choices;
@@ -94,7 +94,9 @@ fn one(
     tally: &mut Tally,
 ) -> Checked {
     match call {
-        Call::Class { class: number } => class(*number, memory, tally),
+        Call::CheckClasses { rows } => check_classes(rows, rules, memory, tally),
+        Call::Class { rows, class: number } => class(rows, *number, rules, memory, tally),
+        Call::SampleClasses => sample_classes(memory, tally),
         Call::Load { n, words, area } => load(*n, words, *area, memory, tally),
         Call::ReadLinkFile { file, table } => read_link_file(file, *table, rules, memory, tally),
         Call::Damaged { damage, call } => {

@@ -1,6 +1,6 @@
 //! The proved calls, made through the C interface, compared with document 01's other implementation.
 //!
-//! A case is a link table and a list of calls, both from one seed (`cases`, `nets`, `requests`, `files`, `damage`), or
+//! A case is a link table and a list of calls, both from one seed (`cases`, `nets`, `requests`, `class_tables`, `files`, `damage`), or
 //! one of those that go through everything (`sweep`). It is run on the archive and every call is held against the ledger
 //! (`history`, `station`, `grants`, `apart`), in lent memory between guard words (`memory`, `buffer`), then run once
 //! more with its quotes struck. A failure is brought down to its smallest list (`smallest`). `tally` says what a run has
@@ -9,6 +9,7 @@
 pub mod apart;
 pub mod buffer;
 pub mod cases;
+pub mod class_tables;
 pub mod damage;
 pub mod faults;
 pub mod files;

@@ -1,8 +1,10 @@
 //! Cases that go through everything once instead of drawing it: each word of two areas set to each of the numbers at
-//! which a range ends, buffers of every length around each limit, and the longest path with the greatest weights.
+//! which a range ends, buffers of every length around each limit, the longest path with the greatest weights, and class
+//! tables of every word count with each number at and past both ends of its range.
 
 use crate::buffer::{Holds, Lent};
 use crate::cases::{Call, Case};
+use crate::class_tables;
 use crate::damage::{field_at, Change, Damage, Field, EDGES};
 use crate::nets::Style;
 use document01::area::AREA_WORDS;
@@ -13,8 +15,8 @@ const WORDS: usize = 12;
 
 const CASES_AN_AREA: u64 = AREA_WORDS.div_ceil(WORDS) as u64;
 
-/// How many such cases there are: the words of two areas, the lengths, and the longest path.
-pub const COUNT: u64 = 2 * CASES_AN_AREA + 2;
+/// How many such cases there are: the words of two areas, the lengths, the longest path, and the class tables.
+pub const COUNT: u64 = 2 * CASES_AN_AREA + 3;
 
 const ENOUGH_WORK: Lent = Lent { words: 16_384, holds: Holds::Kept };
 const ENOUGH_PATH: Lent = Lent { words: 31, holds: Holds::Kept };
@@ -119,7 +121,8 @@ pub fn case(number: u64) -> Case {
     match number / CASES_AN_AREA {
         0 => damaged(number, first, 5),
         1 => damaged(number, first, 64),
-        _ if number + 1 < COUNT => lengths(number),
-        _ => longest(number),
+        _ if number + 2 < COUNT => lengths(number),
+        _ if number + 1 < COUNT => longest(number),
+        _ => with_calls(number, class_tables::all()),
     }
 }

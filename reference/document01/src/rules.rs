@@ -36,6 +36,12 @@ pub enum Rule {
     ChoiceByUsable,
     /// Only quotes are struck. Broken: the first admission is, too.
     QuotesAlone,
+    /// A class table is checked before the class. Broken: after it.
+    TableBeforeClass,
+    /// Every row of a class table is held to the ranges. Broken: the first alone.
+    EveryRow,
+    /// A class table may have 64 rows. Broken: 63 at most.
+    FullClassTable,
 }
 
 /// Document 01's rules, all of them or all but one.

@@ -67,13 +67,48 @@ fn m9_to_m11() {
 #[test]
 fn the_class_lines_of_net_a() {
     let a = ledger(&NET_A);
+    let sample = classes::SAMPLE.concat();
+    let class = |number| classes::class(&sample, number, Rules::all());
     let quoted: Vec<Reply> = (0..6)
-        .map(|class| {
-            let [units, delay_bound, cost_bound, coefficient] = classes::class(class).unwrap();
+        .map(|number| {
+            let [units, delay_bound, cost_bound, coefficient] = class(number).unwrap();
             quote(&a, units, delay_bound, cost_bound, coefficient)
         })
         .collect();
     let six = granted(1, 6);
     assert_eq!(quoted, [six, six, six, granted(1, 9), six, Reply::Refused(9)]);
-    assert_eq!(classes::class(6), Err(16));
+    assert_eq!(class(6), Err(16));
+}
+
+/// Words, a class, and what the check and the class give, by hand from Req 01.
+#[test]
+fn class_tables() {
+    let card = [1, 400, 60, 8];
+    let with = |place: usize, number: u32| {
+        let mut rows = [card, card].concat();
+        rows[place] = number;
+        rows
+    };
+    let cases: [(Vec<u32>, u32, Result<classes::Row, u32>); 15] = [
+        (vec![], 0, Err(20)),
+        (vec![1; 3], 0, Err(20)),
+        (vec![1; 5], 0, Err(20)),
+        (vec![1; 255], 0, Err(20)),
+        (vec![1; 257], 0, Err(20)),
+        (vec![1; 260], 0, Err(20)),
+        (card.to_vec(), 0, Ok(card)),
+        (card.to_vec(), 1, Err(16)),
+        (card.repeat(64), 63, Ok(card)),
+        (card.repeat(64), 64, Err(16)),
+        (with(4, 65_536), 0, Err(21)),
+        (with(5, 31_000_001), 9, Err(21)),
+        (with(6, 0), 0, Err(21)),
+        (with(7, 9), 0, Err(21)),
+        (vec![0; 6], 9, Err(20)),
+    ];
+    for (rows, number, expected) in cases {
+        assert_eq!(classes::class(&rows, number, Rules::all()), expected, "{rows:?}, class {number}");
+        let accepted = classes::checked(&rows, Rules::all()).map(|_| ());
+        assert_eq!(accepted, if let Err(20 | 21) = expected { expected.map(|_| ()) } else { Ok(()) });
+    }
 }

@@ -45,7 +45,9 @@ mod raw {
             answer: *mut u32,
         ) -> u32;
         pub fn line_free_units(area: *const u32, area_words: usize, link: u32, answer: *mut u32) -> u32;
-        pub fn line_class(service_class: u32, answer: *mut u32) -> u32;
+        pub fn line_check_classes(rows: *const u32, row_words: usize) -> u32;
+        pub fn line_class(rows: *const u32, row_words: usize, service_class: u32, answer: *mut u32) -> u32;
+        pub fn line_sample_classes(answer: *mut u32) -> u32;
         pub fn line_read_link_file(
             file: *const u8,
             file_bytes: usize,
@@ -131,8 +133,16 @@ pub fn free_units(area: &[u32], link: u32, answer: &mut [u32; 1]) -> u32 {
     unsafe { raw::line_free_units(area.as_ptr(), area.len(), link, answer.as_mut_ptr()) }
 }
 
-pub fn class(service_class: u32, answer: &mut [u32; 4]) -> u32 {
-    unsafe { raw::line_class(service_class, answer.as_mut_ptr()) }
+pub fn check_classes(rows: &[u32]) -> u32 {
+    unsafe { raw::line_check_classes(rows.as_ptr(), rows.len()) }
+}
+
+pub fn class(rows: &[u32], service_class: u32, answer: &mut [u32; 4]) -> u32 {
+    unsafe { raw::line_class(rows.as_ptr(), rows.len(), service_class, answer.as_mut_ptr()) }
+}
+
+pub fn sample_classes(answer: &mut [u32; 24]) -> u32 {
+    unsafe { raw::line_sample_classes(answer.as_mut_ptr()) }
 }
 
 pub fn read_link_file(file: &[u8], table: &mut [u32], answer: &mut [u32; 2]) -> u32 {

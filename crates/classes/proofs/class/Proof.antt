@@ -1,75 +1,65 @@
--- `classes::class` meets its contract: the constant array, read row by row, is document 01's table.
+-- `classes::class` meets its contract: a refusal of the table is the first that applies, and past it the count of the rows
+-- decides; the one answer that means this is the call's.
 -- Assumes nothing.
-use mathlib.Core.Path.{_≡_, refl, sym, ap, _∙_}
-use mathlib.Core.List.{List, [], _∷_, map}
-use Prim.Native.Nat.{ℕ, _≤_}
+use mathlib.Core.Path.{ap, subst, _∙_}
 use native.Mathlib.Omega.{arith}
 use borrow.Author.Needs.{needs}
-use borrow.Author.Tests.{le-leb, lt-leb}
-use lib.ListN.{getD, List·getD-map}
-use Rattle.rules.specs.declared.Service.{Service}
-use Rattle.rules.specs.declared.ClassAnswer.the-variants.{Row}
-use Rattle.rules.specs.Classes.{asks, rows, classAnswer}
+use Rattle.rules.specs.ClassTable.{rowAt}
+use Rattle.rules.specs.Classes.{CheckMeans}
+use Rattle.rules.proofs.Classes.{class-said, table-refused, no-such-class}
 use Rattle.classes.proofs.class.Statement.{statement}
 use Rattle.classes.proofs.class.Tie as tie
 
--- a row's four words as what a class asks for
-abbrev read : List ℕ → Service
-read row = asks (getD row 0 0) (getD row 1 0) (getD row 2 0) (getD row 3 0)
+check-requires : tie.Need-check-requires
+check-requires c κs = search needs
 
--- the words of the constant array
-abbrev table : List (List ℕ)
-table =
-    (1 ∷ 400 ∷ 60 ∷ 8 ∷ [])
-    ∷ (1 ∷ 250 ∷ 80 ∷ 8 ∷ [])
-    ∷ (2 ∷ 2000 ∷ 40 ∷ 4 ∷ [])
-    ∷ (2 ∷ 5000 ∷ 30 ∷ 2 ∷ [])
-    ∷ (8 ∷ 800 ∷ 300 ∷ 6 ∷ [])
-    ∷ (16 ∷ 3000 ∷ 600 ∷ 2 ∷ [])
-    ∷ []
+enum-known-number : tie.Need-enum-known-number
+enum-known-number c = search needs
 
-same : map read table ≡ rows
-same = refl
+enum-told : tie.Need-enum-told
+enum-told c = search needs
 
-row-of : (k : ℕ) → k ≤ 5 → Row (read (getD table k [])) ≡ classAnswer k
-unfolding classAnswer
-row-of k low =
-    rw (le-leb k 5 low) (ap Row (sym (List·getD-map read table k []) ∙ ap (λ (l : List Service). getD l k (asks 0 0 0 0)) same))
+wide-requires : tie.Need-wide-requires
+wide-requires c κs = search needs
 
 returns : tie.Need-returns
-unfolding classAnswer
-returns c = simp (lt-leb (c .before .args .k) 5 (omega arith))
+returns c =
+    let accepted = c .before .before in
+    let checked = accepted .before .before in
+    let a = checked .before .before .args in
+    let table = subst (CheckMeans (a .rows .now)) (accepted .enum-told .given .1) (checked .check .ensures .1) in
+    class-said (a .rows .now) (a .k) _ (no-such-class (a .rows .now) (a .k) table (omega (arith, c .before .wide .ensures)))
 
-mul-row : tie.Need-mul-row
-mul-row c = search needs
-
-array-copy-out-row : tie.Need-array-copy-out-row
-array-copy-out-row c = search needs
-
-array-read-t18 : tie.Need-array-read-t18
-array-read-t18 c = search needs
-
-array-read-t21 : tie.Need-array-read-t21
-array-read-t21 c = search needs
-
-array-read-t24 : tie.Need-array-read-t24
-array-read-t24 c = search needs
-
-array-read-t27 : tie.Need-array-read-t27
-array-read-t27 c = search needs
+row-requires : tie.Need-row-requires
+row-requires c κs = search needs
 
 returns-2 : tie.Need-returns-2
-returns-2 c = row-of (c .before .before .args .k) (c .before .if1 .left)
+returns-2 c =
+    let refused = c .before in
+    let checked = refused .before .before in
+    let a = checked .before .before .args in
+    let first = subst (CheckMeans (a .rows .now)) (refused .number .given .1) (checked .check .ensures .1) in
+    class-said (a .rows .now) (a .k) _ (table-refused (a .rows .now) (a .k) _ first)
+
+returns-3 : tie.Need-returns-3
+returns-3 c =
+    let wide = c .before .before in
+    let accepted = wide .before in
+    let checked = accepted .before .before in
+    let a = checked .before .before .args in
+    let table = subst (CheckMeans (a .rows .now)) (accepted .enum-told .given .1) (checked .check .ensures .1) in
+    class-said (a .rows .now) (a .k) _
+    (table, omega (arith, wide .wide .ensures), c .row .ensures ∙ ap (rowAt (a .rows .now)) (wide .wide .ensures))
 
 pub class-spec : {M : Type 1} → statement M
 class-spec =
     tie.close
     (tie.spec
+    check-requires
+    enum-known-number
+    enum-told
+    wide-requires
     returns
-    mul-row
-    array-copy-out-row
-    array-read-t18
-    array-read-t21
-    array-read-t24
-    array-read-t27
-    returns-2)
+    row-requires
+    returns-2
+    returns-3)

@@ -2,13 +2,13 @@
 //! class_files --lines FILE LINES
 //!
 //! Runs the class program on COUNT link files (400 where nothing is said), which it writes into FOLDER, and judges what
-//! it prints line by line: refused files and loads, files that are too long, and the six quotes. It exits with 1 where a
+//! it prints line by line: refused files and loads, files that are too long, and a quote for each class of the sample table. It exits with 1 where a
 //! line is not what document 01 says. With `--lines` it judges lines that are stored beside a link file.
 
 use compare::files;
 use compare::nets::{net, Net, Style};
 use document01::judge::{self, Grant};
-use document01::{classes, link_file, Ledger, Reply, Request, Rules, Table};
+use document01::{classes, link_file, Ledger, Reply, Rules, Table};
 use seeded::Random;
 use std::collections::BTreeMap;
 use std::fs::{self, File};
@@ -68,8 +68,8 @@ fn begun(bytes: &[u8]) -> Result<Ledger, String> {
 
 /// Judges the line of one class; gives what kind of line it is.
 fn judge_line(ledger: &Ledger, class: u32, line: &str) -> Result<String, String> {
-    let [units, delay_bound, cost_bound, coefficient] = classes::class(class).map_err(|number| number.to_string())?;
-    let request = Request { s: 0, t: ledger.table.n - 1, units, delay_bound, cost_bound, coefficient };
+    let row = classes::class(&classes::SAMPLE.concat(), class, Rules::all()).map_err(|number| number.to_string())?;
+    let request = classes::request(row, 0, ledger.table.n - 1);
     let (problem, least) = match ledger.quote(16_384, 31, &request) {
         Reply::Refused(number) => {
             let expected = format!("{class} 0 {number}");
@@ -99,11 +99,11 @@ fn judge_output(bytes: &[u8], printed: &str) -> Result<Vec<String>, String> {
     match begun(bytes) {
         Err(expected) if lines == [&expected] => Ok(vec![expected]),
         Err(expected) => Err(format!("expected {expected}")),
-        Ok(ledger) if lines.len() == 6 => {
+        Ok(ledger) if lines.len() == classes::SAMPLE.len() => {
             let judged = lines.iter().zip(0..).map(|(line, class)| judge_line(&ledger, class, line));
             judged.collect()
         }
-        Ok(_) => Err(format!("{} lines instead of six", lines.len())),
+        Ok(_) => Err(format!("{} lines instead of one for each class", lines.len())),
     }
 }
 

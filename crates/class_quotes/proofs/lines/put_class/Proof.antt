@@ -26,15 +26,15 @@ returns : tie.Need-returns
 returns c =
     let stated = c .before .before .before in
     let asked = stated .before .before in
-    let a = asked .before .before .args in
-    put-as (a .text .now) _ _ _ (a .at) _ (class-refused (a .area .now) (a .n) (a .k) _ (sym (stated .asked .given .1) ∙ asked .class .ensures)) (c .put-refused .ensures)
+    let a = asked .before .before .before .args in
+    put-as (a .text .now) _ _ _ (a .at) _ (class-refused (a .rows .now) (a .area .now) (a .n) (a .k) _ (sym (stated .asked .given .1) ∙ asked .class .ensures .0)) (c .put-refused .ensures)
 
 returns-2 : tie.Need-returns-2
 returns-2 c =
     let stated = c .before .before .before .before in
     let asked = stated .before .before in
-    let a = asked .before .before .args in
-    put-as (a .text .now) _ _ _ (a .at) _ (class-row (a .area .now) (a .n) (a .k) _ (sym (stated .asked2 .given .1) ∙ asked .class .ensures)) (c .put-quote .ensures)
+    let a = asked .before .before .before .args in
+    put-as (a .text .now) _ _ _ (a .at) _ (class-row (a .rows .now) (a .area .now) (a .n) (a .k) _ (sym (stated .asked2 .given .1) ∙ asked .class .ensures .0)) (c .put-quote .ensures)
 
 pub put-class-spec : {M : Type 1} → statement M
 put-class-spec =

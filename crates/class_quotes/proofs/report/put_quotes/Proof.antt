@@ -1,13 +1,10 @@
 -- `class_quotes::report::put_quotes` meets its contract: the load says which of the two outputs it is, and a loaded area
 -- has nodes.
 -- Assumes nothing.
-use mathlib.Core.Path.{sym, ap, _∙_}
-use mathlib.Core.List.{List}
-use Prim.Native.Nat.{ℕ}
+use mathlib.Core.Path.{sym, _∙_}
 use borrow.Author.Needs.{needs}
-use Rattle.class_format.specs.Lines.{lines}
 use Rattle.class_format.specs.Output.{blank}
-use Rattle.class_format.proofs.Reported.{all-as, load-refused, load-accepted, some-nodes}
+use Rattle.class_format.proofs.Reported.{all-as, load-refused, load-accepted, some-nodes, sample-fits}
 use Rattle.class_quotes.proofs.report.put_quotes.Statement.{statement}
 use Rattle.class_quotes.proofs.report.put_quotes.Tie as tie
 
@@ -29,13 +26,21 @@ enum-told c = search needs
 slice-aggregate-put-lines : tie.Need-slice-aggregate-put-lines
 slice-aggregate-put-lines c = search needs
 
+sample-requires : tie.Need-sample-requires
+sample-requires c κs = search needs
+
+slice-aggregate-put-lines-2 : tie.Need-slice-aggregate-put-lines-2
+slice-aggregate-put-lines-2 c = search needs
+
 put-lines-requires : tie.Need-put-lines-requires
 unfolding blank
 put-lines-requires c κs =
-    let stated = c .before .before in
+    let stated = c .before .before .before .before in
     let load = stated .before .before .before in
-    let a = load .before .before .before .args in
-    some-nodes (a .n) (a .links .now) (sym (stated .enum-told .given .1) ∙ load .load .ensures .0)
+    let a = load .before .before .before .args in (
+      some-nodes (a .n) (a .links .now) (sym (stated .enum-told .given .1) ∙ load .load .ensures .0),
+      sample-fits (c .before .sample .ensures),
+    )
 
 returns : tie.Need-returns
 unfolding blank
@@ -48,12 +53,12 @@ returns c =
 returns-2 : tie.Need-returns-2
 unfolding blank
 returns-2 c =
-    let stated = c .before .before .before in
+    let stated = c .before .before .before .before .before in
     let load = stated .before .before .before in
     let a = load .before .before .before .args in
     all-as (a .text .now) _ _ _ _
-    (load-accepted (a .n) (a .links .now) (sym (stated .enum-told .given .1) ∙ load .load .ensures .0)
-    ∙ ap (λ (w : List ℕ). lines w (a .n)) (sym (load .load .ensures .1)))
+    (load-accepted (a .n) (a .links .now) _ _ (sym (stated .enum-told .given .1) ∙ load .load .ensures .0) (load .load .ensures .1)
+    (c .before .before .sample .ensures))
     (c .put-lines .ensures)
 
 pub put-quotes-spec : {M : Type 1} → statement M
@@ -66,6 +71,8 @@ put-quotes-spec =
     put-refusal-requires
     enum-told
     slice-aggregate-put-lines
+    sample-requires
+    slice-aggregate-put-lines-2
     put-lines-requires
     returns
     returns-2)

@@ -1,26 +1,9 @@
-// The class call and the link-file reader for C.
+// The link-file reader for C.
 ghost use mathlib.Core.Path.{_≡_};
 ghost use lib.ListN.{length};
-ghost use Rattle.rules.specs.Classes.{classAnswer};
 ghost use Rattle.link_format.specs.Reading.{readAnswer, tableRead};
-ghost use Rattle.line.specs.Codes.{classCode, rowWords, fileCode, sizeWords};
+ghost use Rattle.line.specs.Codes.{fileCode, sizeWords};
 use link_format::FileAnswer;
-use rules::ClassAnswer;
-
-// 16; else 0, and units, D, C and coefficient in `answer`.
-#[no_mangle]
-pub extern "C" fn line_class(class: u32, answer: &mut [u32; 4]) -> u32
-    ensures code { λ k. ⌜ k ≡ classCode (classAnswer class) ⌝ }
-    ensures answer { λ _. ⌜ now (answer .exit) ≡ rowWords (classAnswer class) (now (answer .entry)) ⌝ }
-{
-    match classes::class(class) {
-        ClassAnswer::Refused(k) => k,
-        ClassAnswer::Row(s) => {
-            *answer = [s.units, s.delay_bound, s.cost_bound, s.coefficient];
-            0
-        }
-    }
-}
 
 // 17, 18 and 19; else 0, the links' words in `table`, and n and m in `answer`.
 #[no_mangle]

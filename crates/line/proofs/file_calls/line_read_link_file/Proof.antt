@@ -1,4 +1,4 @@
--- `line::table_calls::line_read_link_file` meets its contract: the code and the words are those of the answer that the
+-- `line::file_calls::line_read_link_file` meets its contract: the code and the words are those of the answer that the
 -- call ensures, whose variant each arm is given, and the table is as it ensures itself.
 -- Assumes nothing.
 use Prim.Native.Nat.{ℕ}
@@ -8,8 +8,8 @@ use borrow.Author.Needs.{needs}
 use Rattle.link_format.specs.declared.FileAnswer.{FileAnswer}
 use Rattle.link_format.specs.declared.FileAnswer.the-variants as file
 use Rattle.line.specs.Codes.{fileCode, sizeWords}
-use Rattle.line.proofs.table_calls.line_read_link_file.Statement.{statement}
-use Rattle.line.proofs.table_calls.line_read_link_file.Tie as tie
+use Rattle.line.proofs.file_calls.line_read_link_file.Statement.{statement}
+use Rattle.line.proofs.file_calls.line_read_link_file.Tie as tie
 
 -- a refusal gives its number, and leaves the words as they stood
 refused-code : (a b : FileAnswer) (k : ℕ) → a ≡ file.Refused k → a ≡ b → k ≡ fileCode b
