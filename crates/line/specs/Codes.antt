@@ -1,4 +1,4 @@
--- What the C functions give for each answer of the calls: document 01's refusal number, or 0 where there is none; and the
+-- What the C functions give for each answer of the calls: the papers' refusal number, or 0 where there is none; and the
 -- words of the answer array after, which a refusal leaves as they stood.
 -- Assumes nothing.
 use Prim.Native.Nat.{ℕ}
