@@ -3,8 +3,6 @@
 use mathlib.Core.Path.{_≡_, refl, subst}
 use mathlib.Core.List.{List, [], _∷_, map, head-eq-of-cons-eq, tail-eq-of-cons-eq}
 use Rattle.network.specs.Lists.{All}
-use Rattle.rules.specs.declared.CheckAnswer.{CheckAnswer}
-use Rattle.rules.specs.declared.ClassAnswer.{ClassAnswer}
 use Rattle.rules.specs.Classes.{CheckMeans, ClassMeans, checkAnswer, classAnswer}
 use Rattle.rules.proofs.Classes.{check-means, class-means}
 use Rattle.cases.specs.ClassCases.{ClassCase, classCases, ClassCaseHolds}

@@ -1,7 +1,9 @@
-//! Document 01 once more, in plain Rust, to compare the proved crates with. It shares neither code nor method with them:
+//! Document 01 and the requests that have landed once more, in plain Rust, to compare the proved crates with. It shares
+//! neither code nor method with them:
 //!
 //! - the reduced problems are solved by listing every path and looking at all of them (`paths`), and where there are too
 //!   many, by labels taken in order of their kept weight (`labels`); no table d[v, k], no rounds, no trace;
+//! - rows are taken off the front of a class table, and each is held to check 8 as a request (`classes`);
 //! - bookings are a ledger's list of entries (`ledger`), and an area is only ever read (`area`);
 //! - which of several best paths is granted is open, so a grant is judged (`judge`) and not foretold.
 //!

@@ -1,7 +1,7 @@
 -- `classes::check` meets its contract: each return means what the first rule that applies says, or that none does; and the one
 -- answer that means this is the check's.
 -- Assumes nothing.
-use mathlib.Core.Path.{_≡_, refl, sym, _∙_}
+use mathlib.Core.Path.{refl, sym, _∙_}
 use mathlib.Core.Bool.{true≢false}
 use mathlib.Core.Logic.{inl, inr}
 use native.Mathlib.Omega.{arith}

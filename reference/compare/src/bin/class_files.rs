@@ -1,9 +1,10 @@
 //! class_files PROGRAM FOLDER [COUNT]
-//! class_files --lines FILE LINES
+//! class_files --lines FILE LINES [TABLE]
 //!
 //! Runs the class program on COUNT link files (400 where nothing is said), which it writes into FOLDER, and judges what
-//! it prints line by line: refused files and loads, files that are too long, and a quote for each class of the sample table. It exits with 1 where a
-//! line is not what document 01 says. With `--lines` it judges lines that are stored beside a link file.
+//! it prints line by line: refused files and loads, files that are too long, and a quote for each class of the sample
+//! table. It exits with 1 where a line is not what document 01 says. With `--lines` it judges lines that are stored
+//! beside a link file, by the rows of the text TABLE where one is named.
 
 use compare::files;
 use compare::nets::{net, Net, Style};
@@ -67,8 +68,8 @@ fn begun(bytes: &[u8]) -> Result<Ledger, String> {
 }
 
 /// Judges the line of one class; gives what kind of line it is.
-fn judge_line(ledger: &Ledger, class: u32, line: &str) -> Result<String, String> {
-    let row = classes::class(&classes::SAMPLE.concat(), class, Rules::all()).map_err(|number| number.to_string())?;
+fn judge_line(ledger: &Ledger, rows: &[u32], class: u32, line: &str) -> Result<String, String> {
+    let row = classes::class(rows, class, Rules::all()).map_err(|number| number.to_string())?;
     let request = classes::request(row, 0, ledger.table.n - 1);
     let (problem, least) = match ledger.quote(16_384, 31, &request) {
         Reply::Refused(number) => {
@@ -92,15 +93,15 @@ fn judge_line(ledger: &Ledger, class: u32, line: &str) -> Result<String, String>
     Ok(format!("problem {problem}"))
 }
 
-/// Judges all that was printed; gives what kind each line is.
-fn judge_output(bytes: &[u8], printed: &str) -> Result<Vec<String>, String> {
+/// Judges all that was printed for the classes of a table; gives what kind each line is.
+fn judge_output(bytes: &[u8], rows: &[u32], printed: &str) -> Result<Vec<String>, String> {
     let body = printed.strip_suffix('\n').ok_or("no newline at the end")?;
     let lines: Vec<&str> = body.split('\n').collect();
     match begun(bytes) {
         Err(expected) if lines == [&expected] => Ok(vec![expected]),
         Err(expected) => Err(format!("expected {expected}")),
-        Ok(ledger) if lines.len() == classes::SAMPLE.len() => {
-            let judged = lines.iter().zip(0..).map(|(line, class)| judge_line(&ledger, class, line));
+        Ok(ledger) if 4 * lines.len() == rows.len() => {
+            let judged = lines.iter().zip(0..).map(|(line, class)| judge_line(&ledger, rows, class, line));
             judged.collect()
         }
         Ok(_) => Err(format!("{} lines instead of one for each class", lines.len())),
@@ -113,10 +114,17 @@ fn run(program: &str, file: &Path) -> String {
     String::from_utf8_lossy(&output.stdout).into_owned()
 }
 
-fn stored(file: &str, lines: &str) {
+/// The numbers of a class table's text, without its comments.
+fn rows(text: &str) -> Vec<u32> {
+    let lines = text.lines().filter(|line| !line.starts_with('#'));
+    lines.flat_map(str::split_whitespace).map(|word| word.parse().expect("a number")).collect()
+}
+
+fn stored(file: &str, lines: &str, table: Option<&String>) {
     let bytes = fs::read(file).expect("a link file");
     let printed = fs::read_to_string(lines).expect("its lines");
-    if let Err(why) = judge_output(&bytes, &printed) {
+    let rows = table.map_or(classes::SAMPLE.concat(), |name| rows(&fs::read_to_string(name).expect("a class table")));
+    if let Err(why) = judge_output(&bytes, &rows, &printed) {
         println!("class_files: {lines}: {why}");
         exit(1);
     }
@@ -129,11 +137,11 @@ const DUE: [&str; 9] =
 fn main() {
     let words: Vec<String> = std::env::args().skip(1).collect();
     let [program, folder, ..] = &words[..] else {
-        eprintln!("usage: class_files PROGRAM FOLDER [COUNT] | --lines FILE LINES");
+        eprintln!("usage: class_files PROGRAM FOLDER [COUNT] | --lines FILE LINES [TABLE]");
         exit(2)
     };
     if program == "--lines" {
-        return stored(folder, words.get(2).expect("a file of lines"));
+        return stored(folder, words.get(2).expect("a file of lines"), words.get(3));
     }
     let count = words.get(2).map_or(400, |word| word.parse().expect("a count"));
     let mut kinds: BTreeMap<String, u64> = BTreeMap::new();
@@ -142,7 +150,7 @@ fn main() {
         let file = Path::new(folder).join(format!("{number}.rtlk"));
         fs::write(&file, &bytes).expect("the folder can be written");
         let printed = run(program, &file);
-        match judge_output(&bytes, &printed) {
+        match judge_output(&bytes, &classes::SAMPLE.concat(), &printed) {
             Ok(lines) => lines.into_iter().for_each(|kind| *kinds.entry(kind).or_default() += 1),
             Err(why) => {
                 println!("class_files: file {number}: {why}\n{printed}");

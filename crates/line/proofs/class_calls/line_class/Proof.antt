@@ -1,7 +1,7 @@
 -- `line::class_calls::line_class` meets its contract: the code and the words are those of the answer that the call ensures,
 -- whose variant each arm is given, and so tell an answer that means what it ensures.
 -- Assumes nothing.
-use mathlib.Core.Path.{_≡_, sym, ap, _∙_}
+use mathlib.Core.Path.{sym, ap, _∙_}
 use borrow.Author.Needs.{needs}
 use Rattle.rules.specs.declared.ClassAnswer.{ClassAnswer}
 use Rattle.line.specs.Codes.{classCode, termsWords}
