@@ -74,7 +74,8 @@ free-granted w i =
     (value.Value (free (station w) i))
     (λ e. refl)
 
--- ---- quote, admission, release, listing and the calls on class tables, by what their C functions' clauses `means` say of code, words and array
+-- ---- quote, admission, release, listing and the calls on class tables, by what their C functions' clauses `means` say of code,
+-- words and array
 -- every rule's number is over 0
 abbrev numbered : List Rule → Bool
 numbered [] = true
