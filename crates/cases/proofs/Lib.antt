@@ -1,5 +1,4 @@
 pub mod Worked
 pub mod Rows
 pub mod Areas
-pub mod FreeLines
 pub mod ClassCases

@@ -28,7 +28,7 @@ use Rattle.area.specs.Load.{load_answer}
 use Rattle.rules.specs.Replies.{PathReply}
 use Rattle.rules.specs.Calls.{quote, admission}
 use Rattle.rules.specs.Meaning.{net_for}
-use Rattle.cases.specs.Document01.{net_a, net_b, AreasLoaded, m2, m3, m11, Asked, quoting, admitting, area_in, Case, cases, Holds, HoldsOn, CaseHolds, Margins}
+use Rattle.cases.specs.Document01.{net_a, net_b, AreasLoaded, m2, m3, m11, Asked, quoting, admitting, area_in, Case, cases, Holds, CaseHolds, Margins}
 use Rattle.rules.proofs.Meaning.{quote_means, admission_means}
 
 -- ---- the cases
@@ -38,11 +38,8 @@ replied w (quoting r) = quote w work_words path_words r
 replied w (admitting c r) = admission w work_words path_words c r
 
 -- and on the area that a case stands on
-abbrev pub replied_on : (ℕ → List ℕ) → Case → PathReply
-replied_on areas c = replied (areas c.stands) c.asked
-
 abbrev pub replied_to : Case → PathReply
-replied_to c = replied_on area_in c
+replied_to c = replied (area_in c.stands) c.asked
 
 -- the replies of all cases, computed
 pub replies : map replied_to cases ≡ map (λ (c : Case). c.reply) cases
@@ -55,11 +52,11 @@ replied_holds w (quoting r) = quote_means w work_words path_words r
 replied_holds w (admitting c r) = admission_means w work_words path_words r c
 
 -- one equation of two lists, as a statement of each element
-pub each_case : (areas : ℕ → List ℕ) (l : List Case) → map (replied_on areas) l ≡ map (λ (c : Case). c.reply) l → All (HoldsOn areas) l
-each_case areas [] e = tt
-each_case areas (c ∷ l) e = (
-  subst (Holds (areas c.stands) c.asked) (head-eq_of_cons-eq e) (replied_holds (areas c.stands) c.asked),
-  each_case areas l (tail-eq_of_cons-eq e),
+each : (l : List Case) → map replied_to l ≡ map (λ (c : Case). c.reply) l → All CaseHolds l
+each [] e = tt
+each (c ∷ l) e = (
+  subst (Holds (area_in c.stands) c.asked) (head-eq_of_cons-eq e) (replied_holds (area_in c.stands) c.asked),
+  each l (tail-eq_of_cons-eq e),
 )
 
 -- the areas are freshly loaded
@@ -69,11 +66,11 @@ areas_loaded = (refl, (refl, (refl, tt)))
 
 -- M1 to M11 hold
 pub all_cases : All CaseHolds cases
-all_cases = each_case area_in cases replies
+all_cases = each cases replies
 
 -- ---- the figures
 -- a path by one link gives distance 1
-pub one_link_lem : (g : Net) (s t i : ℕ) → is_pathb g s t (i ∷ []) ≡ true → Distance g s t 1
+one_link_lem : (g : Net) (s t i : ℕ) → is_pathb g s t (i ∷ []) ≡ true → Distance g s t 1
 one_link_lem g s t i e = record { reached = (i ∷ [], path_of_lem g s t (i ∷ []) e, refl); fewest = fewest }
   where
     fewest : (p : List ℕ) → IsPath g s t p → 1 ≤ length p

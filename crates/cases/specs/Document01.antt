@@ -121,7 +121,7 @@ area_in (suc zero) = net_a4
 area_in (suc (suc zero)) = bare
 area_in (suc (suc (suc k))) = net_b
 
--- a case's number where it is told (document 01), its area, the call and the reply
+-- a case's number in document 01, its area, the call and the reply
 pub record Case : Type 0 where
   pub number : ℕ
   pub stands : ℕ
@@ -155,12 +155,8 @@ abbrev pub Holds : List ℕ → Asked → PathReply → Type 0
 Holds w (quoting r) a = Quoted w work_words path_words r a
 Holds w (admitting c r) a = Admitted w work_words path_words c r a
 
--- of a case, where its number of an area stands for one of these
-abbrev pub HoldsOn : (ℕ → List ℕ) → Case → Type 0
-HoldsOn areas c = Holds (areas c.stands) c.asked c.reply
-
 abbrev pub CaseHolds : Case → Type 0
-CaseHolds c = HoldsOn area_in c
+CaseHolds c = Holds (area_in c.stands) c.asked c.reply
 
 -- what stands for a case past the last, and is none of document 01's
 abbrev pub no_case : Case

@@ -1,4 +1,3 @@
--- Document 01's worked cases, cases of bounds of 0, and cases of class tables.
+-- Document 01's worked cases, and cases of class tables.
 pub mod Document01
-pub mod FreeLines
 pub mod ClassCases

@@ -1,6 +1,6 @@
-// Document 01's worked cases (specs/Document01.antt), cases of bounds of 0 (specs/FreeLines.antt) and cases of class tables
-// (specs/ClassCases.antt), with the proofs that they hold (proofs/Worked.antt and a file of the same name for each of the others),
-// and the link words of document 01's two nets for programs that load them. There is no function here.
+// Document 01's worked cases (specs/Document01.antt) and cases of class tables (specs/ClassCases.antt), with the proofs that they
+// hold (proofs/Worked.antt, proofs/ClassCases.antt), and the link words of document 01's two nets for programs that load them.
+// There is no function here.
 #![tactic(auto)]
 
 // From, to, delay, cost and capacity of each link of net A.

@@ -1,7 +1,6 @@
 pub mod Ranges
 pub mod Paths
 pub mod Problems
-pub mod FreeLines
 pub mod Searches
 pub mod Areas
 pub mod Stations

@@ -6,7 +6,7 @@ pub mod Columns
 mod Words
 mod Least
 pub mod NodeSet
-pub mod Scaling
+mod Scaling
 pub mod Paths
 pub mod Few
 pub mod Short

@@ -11,7 +11,7 @@ use network::limits::MOST_LINKS;
 // The scaled weight of every link, formula 1, where word `j` of a link is the weight. `route` calls it with a delay or a
 // cost for the word and with its bound, which are in their ranges.
 pub fn scaled_column(links: &[u32], m: usize, j: usize, x: usize, bound: u32) -> [u32; MOST_LINKS]
-    requires ranges { (m ≤ most_links) × (j < link_words) × (x ≤ most_x) × (bound ≤ most_bound) }
+    requires ranges { (m ≤ most_links) × (j < link_words) × (x ≤ most_x) × (0 < bound) × (bound ≤ most_bound) }
     requires links_len { length links.now ≡ link_words * m }
     requires by_index { (i : ℕ) → i < m → field links.now i j ≤ most_weight }
     ensures { (i : ℕ) → get_or result i 0 ≡ scaled x bound (field links.now i j) }

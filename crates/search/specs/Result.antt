@@ -10,7 +10,7 @@ use Rattle.network.specs.Problem.{Best, NoPath, NoSolution, Distance}
 use Rattle.network.specs.declared.Request.{Request}
 use Rattle.network.specs.declared.SearchAnswer.{SearchAnswer}
 use Rattle.network.specs.declared.SearchAnswer.TheVariants as answer
-use Rattle.network.specs.Reduce.{TermsInRange, one, two, WithinBounds, Enough, Outcome, no_path, no_solution, granted}
+use Rattle.network.specs.Reduce.{delay_bound, cost_bound, TermsInRange, one, two, WithinBounds, Enough, Outcome, no_path, no_solution, granted}
 use Rattle.search.specs.Heuristic.{search}
 
 -- ---- what it relies on
@@ -32,6 +32,8 @@ pub record Searchable (g : Net) (r : Request) : Type 0 where
   pub source : r.source < g.nodes
   pub target : r.target < g.nodes
   pub apart : r.source ≡ r.target → ⊥
+  pub delay_some : 0 < delay_bound r
+  pub cost_some : 0 < cost_bound r
   pub coefficient_some : 0 < r.coefficient
 
 -- ---- what it finds

@@ -1,6 +1,6 @@
 -- The two problems of a request as one: a weight that is kept and a weight that is scaled, each by its word of a link.
 -- Assumes nothing.
-use Rattle.std.specs.Prelude.{ℕ, ◌≤◌, List}
+use Rattle.std.specs.Prelude.{ℕ, ◌≤◌, ◌<◌, List}
 use Rattle.network.specs.Limits.{most_bound}
 use Rattle.network.specs.Problem.{Problem}
 use Rattle.network.specs.Scale.{scaled}
@@ -26,7 +26,9 @@ pub record Weights (w : Roles) : Type 0 where
   pub kept_high : w.kept ≤ 3
   pub other_low : 2 ≤ w.other
   pub other_high : w.other ≤ 3
+  pub kept_some : 0 < w.kept_bound
   pub kept_most : w.kept_bound ≤ most_bound
+  pub other_some : 0 < w.other_bound
   pub other_most : w.other_bound ≤ most_bound
 
 -- the problem with the weights of these links in the roles w

@@ -42,9 +42,6 @@ pub struct Search<'a> {
     rules: Rules,
 }
 
-/// More than any path of links in their ranges is scaled to.
-const BARRED: u64 = 1 << 40;
-
 fn sum(weights: &[u64], path: &[u32]) -> u64 {
     path.iter().map(|&number| weights[number as usize]).sum()
 }
@@ -75,18 +72,8 @@ impl<'a> Search<'a> {
         self.table.links.iter().map(|link| u64::from(link.cost)).collect()
     }
 
-    /// Formula 1, for a weight of a link. Where nothing may be spent there is nothing to scale: a link that weighs something
-    /// is barred, by a weight that no path can have, and the others are free.
+    /// Formula 1, for a weight of a link.
     fn scale(&self, weight: u64, bound: u64) -> u64 {
-        if bound == 0 {
-            return match weight {
-                0 => 0,
-                _ if !self.rules.hold(Rule::ZeroBinds) => 0,
-                _ if !self.rules.hold(Rule::ZeroOverX) => self.x,
-                _ if !self.rules.hold(Rule::ZeroIsNotOne) => weight * self.x,
-                _ => BARRED,
-            };
-        }
         if self.rules.hold(Rule::RoundUp) {
             (weight * self.x).div_ceil(bound)
         } else {
