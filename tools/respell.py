@@ -72,7 +72,7 @@ class Names:
     """the repository's own names, old to new"""
 
     def __init__(self, root):
-        self.defined, laws = set(), set()
+        self.defined, self.fields, laws = set(), set(), set()
         for path in walk(root, "crates", ".antt"):
             if os.path.basename(path) == "Lib.antt":
                 continue
@@ -81,14 +81,16 @@ class Names:
                 if not m or line.lstrip().startswith("--") or (is_made(path) and m[2].startswith("goal")):
                     continue
                 (self.defined if "/specs/" in path else laws).add(m[1])
+                if "/specs/" in path or line.startswith(" "):
+                    self.fields.add(m[1])
         new = {OTHER.get(n, snake(n)) for n in self.defined}
         self.new = {n: OTHER.get(n, snake(n)) for n in self.defined}
         for n in laws - self.defined:
             self.new[n] = snake(n) + ("_lem" if snake(n) in new and snake(n) != n else "")
         self.new = {n: to for n, to in self.new.items() if n != to}
 
-    def turn(self, name, kit, free):
-        if name in kit:
+    def turn(self, name, kit, free, made_field=False):
+        if name in kit or (made_field and "-" in name and name not in self.fields):
             return name
         if name in self.new:
             return self.new[name]
@@ -100,7 +102,7 @@ class Names:
 def turned(names, text, kit, free):
     def one(m):
         field = text[m.start() - 1 : m.start()] == "."
-        return names.turn(m[0], kit, free and not field)
+        return names.turn(m[0], kit, free and not field, field and not free)
 
     return TOKEN.sub(one, text)
 
