@@ -42,17 +42,17 @@ module _ (m : ℕ) (words c : List ℕ) where
     pub units_out : {t : Bool} → t ≡ in_range least_units most_units (get_or c 1 0) → not t ≡ true → false ≡ circuit_fits m words (circuit_of c)
     units_out {t} e out = rw (circuit_tests, ← number, not-false a number_in, ← e, not-true t out) refl
 
-    module _ {b : Bool} (units : b ≡ in_range least_units most_units (get_or c 1 0)) (Units_in : not b ≡ false) where
+    module _ {b : Bool} (units : b ≡ in_range least_units most_units (get_or c 1 0)) (units_in : not b ≡ false) where
       pub count_out : {t : Bool} → t ≡ in_range least_path_links most_path_links (get_or c 2 0) → not t ≡ true → false ≡ circuit_fits m words (circuit_of c)
       count_out {t} e out =
-          rw (circuit_tests, ← number, not-false a number_in, ← units, not-false b Units_in, ← e, not-true t out) refl
+          rw (circuit_tests, ← number, not-false a number_in, ← units, not-false b units_in, ← e, not-true t out) refl
 
       -- all in range: it is up to the path
       pub path_left : (l : ℕ) (p : List ℕ) {d r : Bool} → d ≡ in_range least_path_links most_path_links (get_or c 2 0) → not d ≡ false
           → l ≡ get_or c 2 0 → p ≡ words_at c 3 l → r ≡ path_fits m words p → r ≡ circuit_fits m words (circuit_of c)
       path_left l p {d} count count_in e q fits =
           fits
-          ∙ rw (circuit_tests, ← number, not-false a number_in, ← units, not-false b Units_in, ← count, not-false d count_in, q, e) refl
+          ∙ rw (circuit_tests, ← number, not-false a number_in, ← units, not-false b units_in, ← count, not-false d count_in, q, e) refl
 
 -- ---- a place
 -- the code reads circuit j's words at its place, and tests them

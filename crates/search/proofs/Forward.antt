@@ -32,11 +32,11 @@ module _ (n m : ℕ) (links next : List ℕ) (t : ℕ) (w : PartialPath) (path :
   unfolding advanced
   advance_home h = simp (eq-eqb _ _ h)
 
-  module _ (i : ℕ) (away : w.node ≡ t → ⊥) (Noted_here : i ≡ get_or next w.node 0) where
+  module _ (i : ℕ) (away : w.node ≡ t → ⊥) (noted_here : i ≡ get_or next w.node 0) where
     -- the note is no link
     pub advance_unlisted : m ≤ i → Advanced w path
     unfolding advanced net_of
-    advance_unlisted h = simp (ne_eqb _ _ away, ← Noted_here, le-leb _ _ h)
+    advance_unlisted h = simp (ne_eqb _ _ away, ← noted_here, le-leb _ _ h)
 
     -- one link more: a listed link leads to a node and adds a million at most to each sum
     module _ (k head delay cost : ℕ) where
@@ -47,7 +47,7 @@ module _ (n m : ℕ) (links next : List ℕ) (t : ℕ) (w : PartialPath) (path :
           → Advanced on (set path w.links (get_or next w.node 0)) × OnWay n (k + 1) on
       unfolding advanced path_on net_of
       advance_on table way h to slow dear = (
-        simp (ne_eqb _ _ away, ← Noted_here, lt-leb _ _ h, ← to, ← slow, ← dear),
+        simp (ne_eqb _ _ away, ← noted_here, lt-leb _ _ h, ← to, ← slow, ← dear),
         record {
           node = omega (arith, table.words.to i h);
           links = omega arith;

@@ -21,17 +21,17 @@ module _ (p : Reduced) (links scaled work : List ℕ) (s : ℕ) (w : TracePlace)
   abbrev Turned : TracePlace → List ℕ → Type 0
   Turned r after = (r, after) ≡ step_back (unflagged p links) (scaled_only p scaled) work s (w, next)
 
-  module _ (i : ℕ) (away : w.node ≡ s → ⊥) (Kept_here : i ≡ link_at work (cell p.x w.node w.column)) where
+  module _ (i : ℕ) (away : w.node ≡ s → ⊥) (kept_here : i ≡ link_at work (cell p.x w.node w.column)) where
     -- the word is no link
     pub stays_unlisted : p.links ≤ i → Turned w next
     unfolding step_back net_of problem_of
-    stays_unlisted h = simp (ne_eqb _ _ away, ← Kept_here, le-leb _ _ h)
+    stays_unlisted h = simp (ne_eqb _ _ away, ← kept_here, le-leb _ _ h)
 
     module _ (listed : i < p.links) (step : ℕ) (weighs : step ≡ get_or scaled i 0) where
       -- the link's scaled weight is more than is left
       pub stays_spent : w.column < step → Turned w next
       unfolding step_back net_of problem_of
-      stays_spent h = simp (ne_eqb _ _ away, ← Kept_here, lt-leb _ _ listed, ← weighs, lt-ltb _ _ h)
+      stays_spent h = simp (ne_eqb _ _ away, ← kept_here, lt-leb _ _ listed, ← weighs, lt-ltb _ _ h)
 
       -- the trace goes back
       pub goes_back : (tail left : ℕ) (after : List ℕ) → step ≤ w.column → tail ≡ field links i 0 → left ≡ inserted w.left tail
@@ -39,4 +39,4 @@ module _ (p : Reduced) (links scaled work : List ℕ) (s : ℕ) (w : TracePlace)
           → Turned (record { node = tail; column = w.column - step; left = left }) after
       unfolding step_back place_back net_of problem_of
       goes_back tail left after h from into notes =
-          simp (ne_eqb _ _ away, ← Kept_here, lt-leb _ _ listed, ← weighs, le-ltb _ _ h, ← from, into, notes)
+          simp (ne_eqb _ _ away, ← kept_here, lt-leb _ _ listed, ← weighs, le-ltb _ _ h, ← from, into, notes)
