@@ -5,13 +5,14 @@
 use mathlib.Core.Path.{◌≡◌, refl, sym, ap, ◌∙◌}
 use mathlib.Core.Bool.{Bool, true, false, not, ◌&&◌}
 use mathlib.Core.List.{List}
-use Prim.Native.Nat.{ℕ, zero, suc}
+use Prim.Native.Nat.{ℕ, zero, suc, ◌≤◌}
 use lib.Dec.{eqb}
 use lib.ListN.{length, get_or}
 use borrow.Author.Tests.{not-true, not-false}
 use Rattle.network.specs.Limits.{least_path_links, least_units, most_path_links, most_units}
 use Rattle.network.specs.Loops.{every}
 use Rattle.network.specs.Ranges.{in_range}
+use Rattle.network.proofs.Ranges.{range_says}
 use Rattle.area.specs.Layout.{circuit_words, least_number, most_number}
 use Rattle.area.specs.Station.{words_at, place, circuit_of, circuit_at, circuits}
 use Rattle.area.specs.Books.{holds}
@@ -20,6 +21,14 @@ use Rattle.area.specs.Formed.{path_fits, circuit_fits, held_fit}
 use Rattle.area.specs.Parts.{place_fits}
 use Rattle.area.proofs.WordsAt.{words_length}
 use Rattle.area.proofs.Found.{unheld_found}
+
+-- ---- a number in range
+module _ (low high n : ℕ) {t : Bool} (test : t ≡ in_range low high n) (in_it : not t ≡ false) where
+  pub range_least : low ≤ n
+  range_least = (range_says low high n (sym test ∙ not-false _ in_it)).0
+
+  pub range_most : n ≤ high
+  range_most = (range_says low high n (sym test ∙ not-false _ in_it)).1
 
 -- ---- a circuit's words
 -- a part has the length that was asked for

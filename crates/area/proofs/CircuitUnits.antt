@@ -5,7 +5,7 @@ use mathlib.Core.Path.{◌≡◌, sym, ◌∙◌, ap, subst}
 use mathlib.Core.Bool.{true, false}
 use mathlib.Core.List.{List, ◌∷◌}
 use Prim.Native.Nat.{ℕ, zero, suc, ◌+◌, ◌≤◌, ◌<◌}
-use native.Mathlib.Nat.{le_refl}
+use native.Mathlib.Nat.{add-zero, le_refl}
 use native.Mathlib.Numerals.{add-one}
 use native.Mathlib.Omega.{arith}
 use lib.Dec.{leb}
@@ -48,6 +48,10 @@ usage_grows w i j (suc h) low =
 -- each link's free units and what the circuits use come to its capacity
 abbrev pub Shared : List ℕ → List Circuit → List ℕ → Type 0
 Shared words cs free = (i : ℕ) → get_or free i 0 + usage cs i ≡ field words i 4
+
+-- before the first circuit every link has its capacity free
+pub shared_none : (words w free : List ℕ) → ((i : ℕ) → get_or free i 0 ≡ field words i 4) → Shared words (circuits w 0) free
+shared_none words w free all i = add-zero (get_or free i 0) ∙ all i
 
 module _ (words : List ℕ) (cs : List Circuit) (free : List ℕ) (c : Circuit) (once : Distinct c.path) (shared : Shared words cs free) where
   -- where it fits, they still do when its units are taken

@@ -8,7 +8,7 @@ use mathlib.Core.List.{List, [], ◌∷◌, ◌++◌}
 use native.Mathlib.Omega.{arith}
 use lib.Dec.{ltb, leb, eqb}
 use lib.ListN.{get_or}
-use borrow.Author.Tests.{leb-true, le-leb, lt-ltb, le-ltb}
+use borrow.Author.Tests.{leb-true, le-leb, lt-leb, lt-ltb, le-ltb}
 use Rattle.network.specs.Limits.{path_words, work_words}
 use Rattle.network.specs.declared.Request.{Request}
 use Rattle.network.specs.Ranges.{in_range}
@@ -48,6 +48,9 @@ module _ (w : List ℕ) (work path : ℕ) (r : Request) where
   abbrev first : ℕ
   first = first_failing (quote_checks w work path r)
 
+  pub first_5 : well_formed w ≡ false → 5 ≡ first
+  first_5 e = rw e refl
+
   -- what a call that passes them may rely on
   pub record Passed : Type 0 where
     pub formed : well_formed w ≡ true
@@ -70,7 +73,13 @@ module _ (w : List ℕ) (work path : ℕ) (r : Request) where
       go false p b q c s d t e = absurd (omega (arith, e))
 
   module _ (formed : well_formed w ≡ true) where
+    pub first_6 : work < work_words → 6 ≡ first
+    first_6 h = rw (formed, lt-leb work_words work h) refl
+
     module _ (memory : work_words ≤ work) where
+      pub first_7 : path < path_words → 7 ≡ first
+      first_7 h = rw (formed, le-leb work_words work memory, lt-leb path_words path h) refl
+
       module _ (buffer : path_words ≤ path) where
         pub first_8 : request_fits (nodes_in w) r ≡ false → 8 ≡ first
         unfolding books station table_in

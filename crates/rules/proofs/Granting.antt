@@ -5,8 +5,9 @@
 use Prim.Native.Nat.{ℕ, ◌≤◌}
 use mathlib.Core.Path.{◌≡◌, refl, sym, ap, ◌∙◌, subst}
 use mathlib.Core.Bool.{true}
-use mathlib.Core.List.{List, ◌++◌}
+use mathlib.Core.List.{List, [], ◌∷◌, ◌++◌}
 use native.Mathlib.Nat.{zero-add}
+use types.Run.{OneOf}
 use native.Mathlib.Omega.{arith}
 use lib.ListN.{length, drop, get_or-append}
 use Rattle.network.specs.Limits.{most_path_links}
@@ -73,6 +74,11 @@ pub unstored : (w : List ℕ) (c u : ℕ) (a : PathReply) → ((g : Grant) → a
 unfolding answer_of booked
 unstored w c u (refuses k) other = refl
 unstored w c u (grants g) other = absurd (other _ refl)
+
+-- an answer whose case is the first is no grant
+pub other_case : (tag : RequestAnswer → ℕ) → ((g : Grant) → tag (Granted g) ≡ 1) → (a : RequestAnswer) → OneOf (0 ∷ []) (tag a)
+    → (g : Grant) → a ≡ Granted g → ⊥
+other_case tag one a keys g e = omega (arith, keys, ap tag e, one g)
 
 -- a granted path has no more links than a path may
 pub granted_short : (w : List ℕ) (r : Request) → well_formed w ≡ true → request_fits (nodes_in w) r ≡ true

@@ -2,35 +2,56 @@
 -- solves is the request's own, and the first answer stands unless it is no solution.
 -- Assumes nothing.
 use mathlib.Core.Path.{◌≡◌, refl, sym, ap, ◌∙◌, fun_ext}
-use mathlib.Core.List.{List}
+use mathlib.Core.List.{List, [], ◌∷◌}
+use mathlib.Core.Logic.{⊎_elim}
 use Prim.Native.Nat.{ℕ, ◌*◌, ◌-◌, ◌≤◌, ◌<◌}
 use native.Mathlib.Nat.{mul-le-mul}
 use native.Mathlib.Omega.{arith}
-use lib.ListN.{get_or}
+use types.Run.{OneOf}
+use lib.ListN.{length, get_or}
 use borrow.Author.Tests.{lt-ltb, le-ltb}
-use Rattle.network.specs.Limits.{most_coefficient, most_nodes, most_x}
+use Rattle.network.specs.Limits.{most_coefficient, most_nodes, most_weight, most_x}
 use Rattle.network.specs.Net.{Net}
 use Rattle.network.specs.Scale.{scaled}
-use Rattle.network.specs.Words.{field, net_of}
+use Rattle.network.specs.Words.{field, net_of, LinkFields}
 use Rattle.network.specs.declared.Request.{Request}
 use Rattle.network.specs.Reduce.{problem_one, problem_two, Outcome, no_path, no_solution, granted}
-use Rattle.network.proofs.Tests.{zero_one}
+use Rattle.network.proofs.Tests.{by_eq, zero_one}
 use Rattle.search.specs.Distance.{distance}
 use Rattle.search.specs.ebf.Solve.{solve}
 use Rattle.search.specs.Heuristic.{outcome_of, or_else, tried, search}
 use Rattle.search.specs.declared.Reduced.{Reduced}
-use Rattle.search.specs.Solver.{problem_of}
+use Rattle.search.specs.Solver.{Flagged, problem_of}
 use Rattle.network.specs.declared.SearchAnswer.{SearchAnswer}
 use Rattle.network.specs.declared.SearchAnswer.TheVariants.{NoPath, NoSolution}
 use Rattle.search.specs.declared.Roles.{Roles}
-use Rattle.search.specs.Result.{outcome, search_answer_of, path_after}
-use Rattle.search.specs.Roles.{roles_one, roles_two, problem_by, outcome_by}
+use Rattle.search.specs.Result.{Ready, outcome, search_answer_of, path_after}
+use Rattle.search.specs.Roles.{Weights, roles_one, roles_two, problem_by, outcome_by}
 
 -- ---- one problem
+-- the delays and the costs of the links are in their range
+pub weight_light : {n m : ℕ} {links : List ℕ} → LinkFields n m links → {j : ℕ} → 2 ≤ j → j ≤ 3 → (i : ℕ) → i < m → field links i j ≤ most_weight
+weight_light words {j} low high i l =
+    by_eq j 2 (λ e. rw e (omega (arith, words.delay i l))) (λ ne. let e : j ≡ 3 = omega arith in rw e (omega (arith, words.cost i l)))
+
 abbrev pub reduced : ℕ → ℕ → ℕ → ℕ → Reduced
 reduced n m x bound = record { nodes = n; links = m; x = x; bound = bound }
 
 module _ (n m : ℕ) (links usable : List ℕ) (r : Request) (x : ℕ) (w : Roles) (kept : List ℕ) where
+  pub roles_sound : {work path : List ℕ} → Ready n m links usable work path r → x ≤ most_x → Weights w
+      → ((i : ℕ) → get_or kept i 0 ≡ field links i w.kept)
+      → Flagged (reduced n m x w.kept_bound) links usable kept
+  roles_sound ready low weights keeps =
+      record {
+        prepared = record {
+          table = ready.table;
+          x = low;
+          bound = weights.kept_most;
+          weight = λ i l. rw (keeps i) (weight_light ready.table.words weights.kept_low weights.kept_high i l);
+        };
+        flags = ready.flags;
+      }
+
   -- the scales are those of the other weight with its bound, so the problem is the one with the weights in these roles
   module _ (scales : List ℕ) (s t : ℕ) where
     abbrev o : Outcome
@@ -50,6 +71,27 @@ module _ (n m : ℕ) (links usable : List ℕ) (r : Request) (x : ℕ) (w : Role
         (stated ∙ ap (search_answer_of (net_of n m links usable)) is, left ∙ ap (λ (z : Outcome). path_after z path) is)
 
 -- ---- the first answer, else the second
+-- an answer of another case than the second is not `NoSolution`
+pub other_case : (tag : SearchAnswer → ℕ) → tag NoSolution ≡ 1 → (a : SearchAnswer) → OneOf (0 ∷ 2 ∷ []) (tag a) → a ≡ NoSolution → ⊥
+other_case tag one a keys e = ⊎_elim (λ z. omega (arith, ap tag e)) (λ z. omega (arith, ap tag e)) keys
+
+-- the first problem leaves what the second one needs
+pub ready_again : {n m : ℕ} {links usable work path work₁ path₁ : List ℕ} {r : Request} → Ready n m links usable work path r
+    → length work₁ ≡ length work
+    → length path₁ ≡ length path
+    → Ready n m links usable work₁ path₁ r
+ready_again ready same same' =
+    record {
+      table = ready.table;
+      flags = ready.flags;
+      memory = omega (arith, ready.memory);
+      buffer = omega (arith, ready.buffer);
+      source = ready.source;
+      target = ready.target;
+      apart = ready.apart;
+      terms = ready.terms;
+    }
+
 module _ (g : Net) where
   stands : (a b : Outcome) → (search_answer_of g a ≡ NoSolution → ⊥) → a ≡ or_else a b
   unfolding search_answer_of

@@ -1,7 +1,7 @@
 -- The cases of one relaxation as equations with the model, and what the rounds keep.
 -- Assumes nothing.
 use mathlib.Core.Path.{◌≡◌, refl, ◌∙◌}
-use mathlib.Core.Bool.{true, false}
+use mathlib.Core.Bool.{Bool, true, false}
 use mathlib.Core.List.{List, []}
 use Prim.Native.Nat.{ℕ, ◌+◌, ◌-◌, ◌≤◌, ◌<◌}
 use native.Mathlib.Nat.{le_trans}
@@ -24,7 +24,7 @@ use Rattle.search.specs.declared.Hop.{Hop}
 use Rattle.search.specs.declared.Reduced.{Reduced}
 use Rattle.search.specs.Solver.{Flagged, net_in, unflagged, problem_of}
 use Rattle.search.specs.ebf.OnTable.{Bounded}
-use Rattle.search.specs.ebf.Relaxing.{Hopped}
+use Rattle.search.specs.ebf.Relaxing.{Hopped, Own}
 use Rattle.search.proofs.ebf.Rows.{cells_below}
 
 -- lines 8 to 10, on numbers within the bound or ∞
@@ -125,3 +125,7 @@ settled_on p links usable kept scaled sound k i low l l' room turn own before =
       cells_below p.nodes p.x table.nodes_most sound.prepared.x,
     ))
     before
+
+-- nothing was changed: the relaxation gives on what it was handed
+pub own_same : (again : Bool) (step : ℕ) (l : List ℕ) → again ≡ false → Own again step l l
+own_same again step l e = record { words = λ _. refl; handed = e }
