@@ -128,8 +128,8 @@ module _ (w : List ℕ) (n : ℕ) (links : List ℕ) (work path work' path' : Li
   g' = net early r'.units
 
   -- the rules of each call
-  abbrev quote_rules_lem : List Rule
-  quote_rules_lem = request_rules early (length work) (length path) r
+  abbrev quoting_rules : List Rule
+  quoting_rules = request_rules early (length work) (length path) r
 
   abbrev admission_rules : List Rule
   admission_rules = request_rules early (length work') (length path') r' ++ number_rules early c
@@ -177,7 +177,7 @@ module _ (w : List ℕ) (n : ℕ) (links : List ℕ) (work path work' path' : Li
   -- ---- the third demand
   module _ (demand : ThirdDemand w n links list) where
     -- refused with a number just where it is the number of the first rule that applies
-    pub quote_refused : (number : ℕ) → (quoted ≡ refuses number) ↔ FirstApplies (quote_rules_lem ++ search_rules g r) number
+    pub quote_refused : (number : ℕ) → (quoted ≡ refuses number) ↔ FirstApplies (quoting_rules ++ search_rules g r) number
     quote_refused = demand.refusals.0
 
     pub admission_refused : (number : ℕ) → (admitted ≡ refuses number) ↔ FirstApplies (admission_rules ++ search_rules g' r') number
@@ -201,7 +201,7 @@ module _ (w : List ℕ) (n : ℕ) (links : List ℕ) (work path work' path' : Li
     release_not_five = demand.no_five.1.1.0
 
     -- past its checks a request is refused exactly when neither problem has a solution
-    pub quote_exactly : Passes quote_rules_lem → IsRefused quoted ↔ Unsolvable g r
+    pub quote_exactly : Passes quoting_rules → IsRefused quoted ↔ Unsolvable g r
     quote_exactly past =
         let said = demand.exactly.0 past in
         (λ e k far. (λ p h. said.0 e (k, far, (p, inl h)), λ p h. said.0 e (k, far, (p, inr h))), λ none. said.1 (unsolvable g r none))
@@ -234,7 +234,7 @@ module _ (w : List ℕ) (n : ℕ) (links : List ℕ) (work path work' path' : Li
         held a = (moved (opened n links) (admitting (length work') (length path') c r') (told (admitting (length work') (length path') c r') a)).held
 
     -- an overqualified path is enough
-    pub quote_enough : Passes quote_rules_lem → (k : ℕ) → Distance g r.source r.target k → (p : List ℕ)
+    pub quote_enough : Passes quoting_rules → (k : ℕ) → Distance g r.source r.target k → (p : List ℕ)
         → IsPath g r.source r.target p → Enough g r k p
         → IsGranted quoted
     quote_enough past k far p path h = demand.enough.0 past (k, far, (p, path, h))

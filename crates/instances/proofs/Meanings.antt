@@ -39,26 +39,26 @@ PathGiven rules h r g l l' b =
 
 -- ---- a quote
 module _ (w : List ℕ) (work : ℕ) (l : List ℕ) (r : Request) (l' : List ℕ) where
-  abbrev quote_rules_lem : List Rule
-  quote_rules_lem = quote_rules w work (length l) r ++ search_rules (net_for w r) r
+  abbrev quoting_rules : List Rule
+  quoting_rules = quote_rules w work (length l) r ++ search_rules (net_for w r) r
 
   -- refused: by the first rule that applies, and the path buffer is as it was
-  pub quote_refused : (k : ℕ) → QuoteMeans w work l r (request.Refused k) l' → FirstApplies quote_rules_lem k × (l' ≡ l)
+  pub quote_refused : (k : ℕ) → QuoteMeans w work l r (request.Refused k) l' → FirstApplies quoting_rules k × (l' ≡ l)
   unfolding answer_of path_after
   quote_refused k h = go h.reply h.allowed h.answer h.path
     where
       go : (a : PathReply) → Quoted w work (length l) r a → request.Refused k ≡ answer_of a → l' ≡ path_after a l
-          → FirstApplies quote_rules_lem k × (l' ≡ l)
+          → FirstApplies quoting_rules k × (l' ≡ l)
       go (refuses j) allowed e path = let same : j ≡ k = cc in (rw (← same) allowed, path)
       go (grants b) allowed e path = absurd (zero_one cc)
 
   -- granted: a path
-  pub quote_granted : (g : Numbers) → QuoteMeans w work l r (request.Granted g) l' → (b : PathGrant) × PathGiven quote_rules_lem (net_for w r) r g l l' b
+  pub quote_granted : (g : Numbers) → QuoteMeans w work l r (request.Granted g) l' → (b : PathGrant) × PathGiven quoting_rules (net_for w r) r g l l' b
   unfolding answer_of path_after
   quote_granted g h = go h.reply h.allowed h.answer h.path
     where
       go : (a : PathReply) → Quoted w work (length l) r a → request.Granted g ≡ answer_of a → l' ≡ path_after a l
-          → (b : PathGrant) × PathGiven quote_rules_lem (net_for w r) r g l l' b
+          → (b : PathGrant) × PathGiven quoting_rules (net_for w r) r g l l' b
       go (refuses j) allowed e path = absurd (zero_one cc)
       go (grants b) allowed e path = (b, (allowed.0, allowed.1, cc, path))
 
@@ -96,14 +96,14 @@ module _ (w : List ℕ) (work : ℕ) (l : List ℕ) (c : ℕ) (r : Request) (l' 
 
 -- ---- a release of circuit c
 module _ (w : List ℕ) (c : ℕ) (w' : List ℕ) where
-  abbrev release_rules_lem : List Rule
-  release_rules_lem = (5 when (WellFormed w → ⊥)) ∷ (13 when holds (station w).held c ≡ false) ∷ []
+  abbrev releasing_rules : List Rule
+  releasing_rules = (5 when (WellFormed w → ⊥)) ∷ (13 when holds (station w).held c ≡ false) ∷ []
 
-  pub release_refused : (k : ℕ) → ReleaseMeans w c (release.Refused k) w' → FirstApplies release_rules_lem k × (w' ≡ w)
+  pub release_refused : (k : ℕ) → ReleaseMeans w c (release.Refused k) w' → FirstApplies releasing_rules k × (w' ≡ w)
   unfolding release_answer_of books
   release_refused k h = go h.reply h.allowed h.answer h.area
     where
-      go : (a : ReleaseReply) → Cleared w c a → release.Refused k ≡ release_answer_of a → AreaCleared w c a w' → FirstApplies release_rules_lem k × (w' ≡ w)
+      go : (a : ReleaseReply) → Cleared w c a → release.Refused k ≡ release_answer_of a → AreaCleared w c a w' → FirstApplies releasing_rules k × (w' ≡ w)
       go (refuses j) allowed e area = let same : j ≡ k = cc in (rw (← same) allowed, area)
       go (grants _) allowed e area = absurd (zero_one cc)
 
@@ -111,26 +111,26 @@ module _ (w : List ℕ) (c : ℕ) (w' : List ℕ) where
   abbrev OthersHeld : Type 0
   OthersHeld = Same (station w').held (without c (station w).held) × WellFormed w' × Untouched w w'
 
-  pub release_granted : ReleaseMeans w c release.Released w' → Passes release_rules_lem × OthersHeld
+  pub release_granted : ReleaseMeans w c release.Released w' → Passes releasing_rules × OthersHeld
   unfolding release_answer_of books
   release_granted h = go h.reply h.allowed h.answer h.area
     where
-      go : (a : ReleaseReply) → Cleared w c a → release.Released ≡ release_answer_of a → AreaCleared w c a w' → Passes release_rules_lem × OthersHeld
+      go : (a : ReleaseReply) → Cleared w c a → release.Released ≡ release_answer_of a → AreaCleared w c a w' → Passes releasing_rules × OthersHeld
       go (refuses j) allowed e area = absurd (zero_one cc)
       go (grants _) allowed e area = (allowed.0, (area.holds, area.formed, area.untouched))
 
 -- ---- a listing into the buffer l
 module _ (w l l' : List ℕ) where
-  abbrev list_rules_lem : List Rule
-  list_rules_lem = (5 when (WellFormed w → ⊥)) ∷ (14 when length l < length (station w).held) ∷ []
+  abbrev listing_rules : List Rule
+  listing_rules = (5 when (WellFormed w → ⊥)) ∷ (14 when length l < length (station w).held) ∷ []
 
   abbrev Allowed : Reply (List ℕ) → Type 0
   Allowed a = Answered (ListsHeld (station w).held) (list_rules w (length l)) a
 
-  pub list_refused : (k : ℕ) → ListMeans w l (Refused k) l' → FirstApplies list_rules_lem k × (l' ≡ l)
+  pub list_refused : (k : ℕ) → ListMeans w l (Refused k) l' → FirstApplies listing_rules k × (l' ≡ l)
   list_refused k h = go h.reply h.allowed h.answer h.buffer
     where
-      go : (a : Reply (List ℕ)) → Allowed a → Refused k ≡ count_of a → l' ≡ buffer_after a l → FirstApplies list_rules_lem k × (l' ≡ l)
+      go : (a : Reply (List ℕ)) → Allowed a → Refused k ≡ count_of a → l' ≡ buffer_after a l → FirstApplies listing_rules k × (l' ≡ l)
       go (refuses j) allowed e buffer = let same : j ≡ k = cc in (rw (← same) allowed, buffer)
       go (grants ns) allowed e buffer = absurd (zero_one cc)
 
@@ -143,10 +143,10 @@ module _ (w l l' : List ℕ) where
       × ((c : ℕ) → memb c ns ≡ holds (station w).held c)
       × Distinct ns
 
-  pub list_granted : (h : ℕ) → ListMeans w l (Value h) l' → Passes list_rules_lem × ((ns : List ℕ) × Written h ns)
+  pub list_granted : (h : ℕ) → ListMeans w l (Value h) l' → Passes listing_rules × ((ns : List ℕ) × Written h ns)
   list_granted h m = go m.reply m.allowed m.answer m.buffer
     where
-      go : (a : Reply (List ℕ)) → Allowed a → Value h ≡ count_of a → l' ≡ buffer_after a l → Passes list_rules_lem × ((ns : List ℕ) × Written h ns)
+      go : (a : Reply (List ℕ)) → Allowed a → Value h ≡ count_of a → l' ≡ buffer_after a l → Passes listing_rules × ((ns : List ℕ) × Written h ns)
       go (refuses j) allowed e buffer = absurd (zero_one cc)
       go (grants ns) allowed e buffer =
           (allowed.0, (ns, (cc, buffer, allowed.1.count, allowed.1.held, allowed.1.once)))

@@ -9,7 +9,7 @@ use network::limits::LINK_WORDS;
 // The words of `m` records, five each, into the first words of `table`. The reader has checked both lengths.
 pub fn read_records(records: &[u8], m: usize, table: &mut [u32])
     requires lengths { (m ≤ most_links) × (20 * m ≤ length records.now) }
-    requires m_in_bounds { link_words * m ≤ length table.old }
+    requires room { link_words * m ≤ length table.old }
     ensures { table.new ≡ words_from records.now 0 (link_words * m) ++ drop (link_words * m) table.old }
 {
     for i in 0..LINK_WORDS * m {
