@@ -11,10 +11,6 @@ import os
 import re
 import sys
 
-# Definitions that would fall together with a parameter of a function whose clauses cite them, and that parameter would hide
-# them: they get another name.
-OTHER = {}
-
 WORD = r"[A-Za-z][A-Za-z0-9_'₀-₉]*(?:-[A-Za-z0-9_'₀-₉]+)*"
 TOKEN = re.compile(r"(?<![A-Za-z0-9_'₀-₉-])" + WORD + r"(?![A-Za-z0-9_'₀-₉-])")
 DEFINED = re.compile(r"\s*(?:(?:pub|abbrev|unfoldable|data|record) )*(" + WORD + r")(?=\s)(?![^:]*=)[^:=]*\s?:\s*(\S*)")
@@ -83,12 +79,13 @@ class Names:
                 (self.defined if "/specs/" in path else laws).add(m[1])
                 if "/specs/" in path or line.startswith(" "):
                     self.fields.add(m[1])
-        new = {OTHER.get(n, snake(n)) for n in self.defined}
-        self.new = {n: OTHER.get(n, snake(n)) for n in self.defined}
+        self.new = {n: snake(n) for n in self.defined}
+        taken = set(self.new.values())
         for n in laws - self.defined:
-            self.new[n] = snake(n) + ("_lem" if snake(n) in new and snake(n) != n else "")
+            self.new[n] = snake(n) + ("_lem" if snake(n) in taken and snake(n) != n else "")
         self.new = {n: to for n, to in self.new.items() if n != to}
 
+    # In a file that answers goals a name with a dash behind a dot is the check's, unless it is a field.
     def turn(self, name, kit, free, made_field=False):
         if name in kit or (made_field and "-" in name and name not in self.fields):
             return name
