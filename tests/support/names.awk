@@ -17,12 +17,16 @@ FILENAME ~ /antt$/ {
     next
 }
 
-# functions, as code names them
+# functions, as code names them; a method behind its type
 FILENAME ~ /rt$/ {
-    if (sub(/^(pub |pub\(crate\) |extern "C" )*fn /, "")) {
+    if (/^impl/) {
+        type = $0; sub(/^impl(<[^>]*>)? /, "", type); sub(/ \{.*/, "", type); sub(/.* for /, "", type); sub(/<.*/, "", type)
+    }
+    if (/^}/) type = ""
+    if (sub(/^(    )?(pub |pub\(crate\) |extern "C" )*fn /, "")) {
         sub(/[^a-zA-Z0-9_].*/, "")
         module = file; sub(/\.(lib|main)$/, "", module); gsub(/\./, "::", module)
-        functions[module "::" $0]
+        functions[module "::" (type == "" ? "" : type "::") $0]
     }
     next
 }

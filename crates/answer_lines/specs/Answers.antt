@@ -1,16 +1,10 @@
 -- What a load, a call and a reading answer, and a path, as the rest of a line in ASCII, up to its newline (byte 10):
--- the contracts of `src/lib.rt` cite it.
+-- the contracts of `src/` cite it.
 -- Assumes nothing.
 use Rattle.std.specs.Prelude.{ℕ, List, [], ◌∷◌, ◌++◌, take}
 use Rattle.network.specs.declared.Grant.{Grant}
-use Rattle.area.specs.declared.Loading.{Loading}
-use Rattle.area.specs.declared.Loading.TheVariants as loading
-use Rattle.rules.specs.declared.RequestAnswer.{RequestAnswer}
-use Rattle.rules.specs.declared.RequestAnswer.TheVariants as answer
-use Rattle.rules.specs.declared.ReleaseAnswer.{ReleaseAnswer}
-use Rattle.rules.specs.declared.ReleaseAnswer.TheVariants as release
-use Rattle.area.specs.declared.ValueAnswer.{ValueAnswer}
-use Rattle.area.specs.declared.ValueAnswer.TheVariants as value
+use Rattle.network.specs.Reduce.{problem_number}
+use Rattle.area.specs.Refusals.{Reply, refuses, grants}
 use Rattle.text_format.specs.Fields.{fields}
 
 -- a field for each of these numbers, and the newline
@@ -29,27 +23,31 @@ path_text links buffer = line_text (take links buffer)
 -- problem, delay, cost and the path
 unfoldable pub grant_text : Grant → List ℕ → List ℕ
 unfolding fields line_text
-grant_text g buffer = fields (g.problem ∷ g.delay ∷ g.cost ∷ []) ++ path_text g.links buffer
-
--- a quote or an admission
-unfoldable pub answer_text : RequestAnswer → List ℕ → List ℕ
-unfolding line_text grant_text
-answer_text (answer.Refused k) buffer = refused_text k
-answer_text (answer.Granted g) buffer = grant_text g buffer
+grant_text g buffer = fields (problem_number g.problem ∷ g.delay ∷ g.cost ∷ []) ++ path_text g.links buffer
 
 -- a release that is not refused: a space and `released`
-unfoldable pub release_text : ReleaseAnswer → List ℕ
-unfolding line_text
-release_text (release.Refused k) = refused_text k
-release_text release.Released = 32 ∷ 114 ∷ 101 ∷ 108 ∷ 101 ∷ 97 ∷ 115 ∷ 101 ∷ 100 ∷ 10 ∷ []
+abbrev pub released_text : List ℕ
+released_text = 32 ∷ 114 ∷ 101 ∷ 108 ∷ 101 ∷ 97 ∷ 115 ∷ 101 ∷ 100 ∷ 10 ∷ []
 
-unfoldable pub value_text : ValueAnswer → List ℕ
+-- a call is refused, or it grants what is written so
+unfoldable pub answer_text : {A : Type 0} → (A → List ℕ) → Reply A → List ℕ
 unfolding line_text
-value_text (value.Refused k) = refused_text k
-value_text (value.Value v) = line_text (v ∷ [])
+answer_text written (refuses k) = refused_text k
+answer_text written (grants granted) = written granted
+
+-- a quote or an admission, with the words of its path buffer
+unfoldable pub routed_text : Reply Grant → List ℕ → List ℕ
+unfolding line_text grant_text
+routed_text (refuses k) buffer = refused_text k
+routed_text (grants g) buffer = grant_text g buffer
+
+-- a refusal has 23 bytes at most
+abbrev pub answer_room : {A : Type 0} → (A → ℕ) → Reply A → ℕ
+answer_room room (refuses k) = 23
+answer_room room (grants granted) = room granted
 
 -- a load has a line of its own, so no space stands before its 0, or it is `loaded`
-unfoldable pub loading_text : Loading → List ℕ
+unfoldable pub loading_text : Reply (Unit {0}) → List ℕ
 unfolding line_text
-loading_text (loading.Refused k) = 48 ∷ line_text (k ∷ [])
-loading_text loading.Loaded = 108 ∷ 111 ∷ 97 ∷ 100 ∷ 101 ∷ 100 ∷ 10 ∷ []
+loading_text (refuses k) = 48 ∷ line_text (k ∷ [])
+loading_text (grants _) = 108 ∷ 111 ∷ 97 ∷ 100 ∷ 101 ∷ 100 ∷ 10 ∷ []

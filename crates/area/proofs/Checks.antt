@@ -2,7 +2,7 @@
 -- one of them; and checks that test rules refuse as the rules do, by the first that applies.
 -- Assumes nothing.
 use Prim.Native.Nat.{ℕ, zero, suc, ◌≤◌, ◌<◌}
-use mathlib.Core.Path.{◌≡◌, refl, sym, ◌∙◌}
+use mathlib.Core.Path.{◌≡◌, refl, sym, ap, ◌∙◌}
 use mathlib.Core.Bool.{Bool, true, false, ◌&&◌, true≢false}
 use mathlib.Core.List.{List, [], ◌∷◌, ◌++◌}
 use mathlib.Core.Logic.{inl, inr}
@@ -10,7 +10,7 @@ use native.Mathlib.Omega.{arith}
 use lib.Dec.{ltb, leb}
 use borrow.Author.Tests.{leb-true, leb-false, ltb-true, ltb-false}
 use Rattle.network.specs.Lists.{All}
-use Rattle.network.proofs.Tests.{by_bool, fst_of, snd_of}
+use Rattle.network.proofs.Tests.{by_bool, fst_of, snd_of, zero_one}
 use Rattle.area.specs.Refusals.{Rule, ◌when◌, FirstApplies, Passes, Reply, refuses, grants, Answered}
 use Rattle.area.specs.Checks.{Check, ◌unless◌, first_failing, unless_refused, checked}
 
@@ -23,12 +23,12 @@ first_number c more fails [] ok = rw fails refl
 first_number c more fails (b ∷ cs) ok = rw ok.0 (first_number c more fails cs ok.1)
 
 -- every check's number is over 0, as document 01's are
-abbrev pub numbered : List Check → Bool
-numbered [] = true
-numbered (c ∷ cs) = ltb 0 c.number && numbered cs
+abbrev pub over_zero : List Check → Bool
+over_zero [] = true
+over_zero (c ∷ cs) = ltb 0 c.number && over_zero cs
 
 -- where none fails, every check passes
-pub each_passes : (cs : List Check) → numbered cs ≡ true → first_failing cs ≡ 0 → All (λ (c : Check). c.passes ≡ true) cs
+pub each_passes : (cs : List Check) → over_zero cs ≡ true → first_failing cs ≡ 0 → All (λ (c : Check). c.passes ≡ true) cs
 each_passes [] over e = tt
 each_passes (c ∷ cs) over e =
     by_bool c.passes
@@ -52,6 +52,32 @@ checked_made f refuse cs a = go (first_failing cs)
     go : (n : ℕ) → unless_refused (λ k. f (refuse k)) (f a) n ≡ f (unless_refused refuse a n)
     go zero = refl
     go (suc k) = refl
+
+-- ---- checks with others behind them
+-- a refusal by the checks `cs` alone is one by more checks, and what they grant alone is left to those behind
+module _ {A : Type 0} (cs more : List Check) (a : Reply A) where
+  pub refused_first : (k : ℕ) → refuses k ≡ checked {A = Reply (Unit {0})} refuses cs (grants tt) → refuses k ≡ checked refuses (cs ++ more) a
+  refused_first k e = go (first_failing cs) refl e
+    where
+      kept : (l : List Check) (j : ℕ) → first_failing l ≡ suc j → first_failing (l ++ more) ≡ suc j
+      kept [] j e = absurd (zero_one cc)
+      kept (c ∷ l) j e = by_bool c.passes (λ q. rw q (kept l j (rw q at e))) (λ q. rw q (rw q at e))
+
+      go : (n : ℕ) → first_failing cs ≡ n → refuses k ≡ unless_refused {A = Reply (Unit {0})} refuses (grants tt) n → refuses k ≡ checked refuses (cs ++ more) a
+      go zero is e = absurd (zero_one cc)
+      go (suc j) is e = let same : k ≡ suc j = cc in rw (same, kept cs j is) refl
+
+  pub granted_first : over_zero cs ≡ true → grants tt ≡ checked {A = Reply (Unit {0})} refuses cs (grants tt)
+      → checked refuses more a ≡ checked refuses (cs ++ more) a
+  granted_first over e = ap (unless_refused refuses a) (sym (passed cs (each_passes cs over (go (first_failing cs) refl e))))
+    where
+      passed : (l : List Check) → All (λ (c : Check). c.passes ≡ true) l → first_failing (l ++ more) ≡ first_failing more
+      passed [] ok = refl
+      passed (c ∷ l) ok = rw ok.0 (passed l ok.1)
+
+      go : (n : ℕ) → first_failing cs ≡ n → grants tt ≡ unless_refused {A = Reply (Unit {0})} refuses (grants tt) n → first_failing cs ≡ 0
+      go zero is e = is
+      go (suc j) is e = absurd (zero_one cc)
 
 -- ---- checks that test rules
 -- a check has its rule's number and fails just where the rule applies

@@ -15,7 +15,7 @@ use Rattle.area.specs.Books.{free}
 use Rattle.area.specs.Held.{number_at, numbers_from}
 use Rattle.area.specs.Formed.{sound, well_formed}
 use Rattle.area.specs.Checks.{◌unless◌, checked}
-use Rattle.area.specs.declared.ValueAnswer.TheVariants.{Refused, Value}
+use Rattle.area.specs.Refusals.{refuses, grants}
 use Rattle.area.specs.Reads.{list_answer, listed, free_answer}
 use Rattle.area.proofs.Found.{circuit_number, held_length}
 
@@ -54,7 +54,7 @@ module _ (w w' : List ℕ) (long : leb area_words (length w) ≡ leb area_words 
   pub free_depends : (i : ℕ) → free_answer w i ≡ free_answer w' i
   unfolding free_answer station table_in
   free_depends i =
-      ap₂ (λ (formed : Bool) (s : Station). checked Refused ((5 unless formed) ∷ (15 unless ltb i s.table.links) ∷ []) (Value (free s i)))
+      ap₂ (λ (formed : Bool) (s : Station). checked refuses ((5 unless formed) ∷ (15 unless ltb i s.table.links) ∷ []) (grants (free s i)))
       formed_depends same
 
   -- the buffer after a listing

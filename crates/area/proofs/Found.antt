@@ -7,17 +7,18 @@ use mathlib.Core.List.{List}
 use Prim.Native.Nat.{ℕ, zero, suc, ◌+◌, ◌≤◌, ◌<◌}
 use native.Mathlib.Nat.{add-zero, zero-add, add-suc, suc-add}
 use native.Mathlib.Omega.{arith}
+use Rattle.std.specs.Prelude.{Option, None, Some, is_some, MatchOption}
 use lib.Dec.{ltb, eqb}
 use lib.ListN.{length}
 use borrow.Author.Tests.{ltb-true, lt-ltb, le-ltb, eqb-true, eq-eqb, ne_eqb}
 use Rattle.network.specs.Lists.{All, memb, Distinct}
 use Rattle.network.specs.Loops.{first}
-use Rattle.network.proofs.Loops.{first_most, first_passes}
+use Rattle.network.proofs.Loops.{first_here, first_nowhere, first_most, first_passes}
 use Rattle.network.proofs.Stored.{from_length}
 use Rattle.network.proofs.Tests.{by_eq}
 use Rattle.area.specs.Station.{Circuit, circuit_of, circuit_at, circuits}
 use Rattle.area.specs.Books.{numbers, holds}
-use Rattle.area.specs.Held.{ListsHeld, number_at, found_at, numbers_from}
+use Rattle.area.specs.Held.{ListsHeld, number_at, found_at, FoundAt, numbers_from}
 use Rattle.area.proofs.Each.{images_each}
 
 -- a circuit's number is the first of its words
@@ -56,6 +57,23 @@ not_less a b most =
 pub unheld_found : (w : List ℕ) (h k : ℕ) → eqb (found_at w h k) h ≡ not (holds (circuits w h) k)
 unfolding found_at
 unheld_found w h k = sym (ap not (holds_found w h k) ∙ not_less (found_at w h k) h (first_most (λ j. eqb k (number_at w j)) h))
+
+-- the code's search, place by place
+pub found_told : (w : List ℕ) (h k : ℕ) (r : Option ℕ)
+    → MatchOption r ((i : ℕ) → 0 ≤ i → i < h → eqb k (number_at w i) ≡ false)
+    (λ j. (0 ≤ j) × (j < h) × (eqb k (number_at w j) ≡ true) × ((i : ℕ) → 0 ≤ i → i < j → eqb k (number_at w i) ≡ false))
+    → FoundAt w h k r
+unfolding found_at
+found_told w h k None told = sym (first_nowhere (λ j. eqb k (number_at w j)) h (λ i low. told i (omega arith) low))
+found_told w h k (Some j) told = (
+  told.1,
+  first_here (λ i. eqb k (number_at w i)) h j (λ i low. told.3 i (omega arith) low) told.1 told.2,
+)
+
+-- a number is found among the places just where one of their circuits has it
+pub found_holds : (w : List ℕ) (j k : ℕ) (r : Option ℕ) → FoundAt w j k r → is_some r ≡ holds (circuits w j) k
+found_holds w j k None found = sym (holds_found w j k ∙ le-ltb _ j (omega (arith, found)))
+found_holds w j k (Some i) found = sym (holds_found w j k ∙ lt-ltb _ j (omega (arith, found.0, found.1)))
 
 -- what is found has the number
 pub found_number : (w : List ℕ) (h k : ℕ) → found_at w h k < h → k ≡ number_at w (found_at w h k)

@@ -1,29 +1,19 @@
--- A link is usable for b units exactly where its free units are at least b, and then its flag is 1; and free units are
--- what the circuits leave of the capacity.
+-- A link is usable for b units exactly where its free units are at least b; and free units are what the circuits leave of
+-- the capacity.
 -- Assumes nothing.
 use Prim.Native.Nat.{ℕ, ◌+◌, ◌≤◌, ◌<◌}
-use mathlib.Core.Path.{◌≡◌, refl}
-use mathlib.Core.Bool.{Bool, true, false, cond}
+use mathlib.Core.Path.{◌≡◌}
+use mathlib.Core.Bool.{true}
 use mathlib.Core.Logic.{◌↔◌}
 use native.Mathlib.Omega.{arith}
-use lib.Dec.{eqb, leb}
 use borrow.Author.Tests.{leb-true, le-leb}
 use Rattle.area.specs.Station.{Station, capacity_of}
 use Rattle.area.specs.Books.{Books, usage, free, net}
 use Rattle.area.specs.Formed.{SoundStation}
-use Rattle.area.specs.Usable.{flag}
 
 pub usable_exactly : (o : Books) (b i : ℕ) → ((net o b).usable i ≡ true) ↔ (b ≤ o.free i)
 unfolding net
 usable_exactly o b i = (leb-true b (o.free i), le-leb b (o.free i))
-
--- a flag is 1 exactly where the units are free
-pub flag_says : (b f : ℕ) → eqb (flag b f) 1 ≡ leb b f
-flag_says b f = go (leb b f)
-  where
-    go : (t : Bool) → eqb (cond t 1 0) 1 ≡ t
-    go true = refl
-    go false = refl
 
 -- in a sound station nothing is lost by the subtraction
 pub free_units : (s : Station) → SoundStation s → (i : ℕ) → i < s.table.links → free s i + usage s.held i ≡ capacity_of s.table i

@@ -1,5 +1,7 @@
 mod Each
 mod Agreement
+mod Every
+pub mod Arrays
 pub mod WordsAt
 pub mod Found
 mod PathTest
@@ -15,7 +17,7 @@ pub mod Refusals
 pub mod Checks
 pub mod ReadCases
 pub mod Depends
-pub mod LinkTest
+pub mod TableCases
 pub mod Onward
 pub mod CircuitCases
 pub mod Taken

@@ -4,6 +4,7 @@
 use mathlib.Core.Path.{◌≡◌, refl, ap}
 use mathlib.Core.Bool.{true, false}
 use mathlib.Core.List.{List, [], ◌∷◌}
+use mathlib.Core.Logic.{◌⊎◌, inl, inr}
 use Prim.Native.Nat.{ℕ, ◌+◌, ◌/◌, ◌%◌, ◌≤◌, ◌<◌}
 use native.Mathlib.Omega.{arith}
 use lib.ListN.{length, set}
@@ -12,7 +13,7 @@ use borrow.Author.Tests.{le-leb, lt-leb, eq-eqb, ne_eqb}
 use Rattle.network.specs.Limits.{least_nodes, link_words, most_nodes}
 use Rattle.network.specs.Ranges.{in_range}
 use Rattle.area.specs.Layout.{area_words, table_words}
-use Rattle.area.specs.declared.Loading.TheVariants.{Refused, Loaded}
+use Rattle.area.specs.Refusals.{refuses, grants}
 use Rattle.area.specs.Formed.{links_fit}
 use Rattle.area.specs.Load.{table_of, load_answer, loaded, area_loaded}
 
@@ -29,7 +30,7 @@ stored_loaded (a ∷ b ∷ d ∷ w) n links fits =
 module _ (w : List ℕ) (n : ℕ) (links : List ℕ) where
   -- the answer is this refusal, and the area stays
   abbrev pub RefusedBy : ℕ → Type 0
-  RefusedBy k = (Refused k ≡ load_answer w n links) × (w ≡ area_loaded w n links)
+  RefusedBy k = (refuses k ≡ load_answer w n links) × (w ≡ area_loaded w n links)
 
   -- 1: the area is too short
   pub area_short : length w < area_words → RefusedBy 1
@@ -48,19 +49,24 @@ module _ (w : List ℕ) (n : ℕ) (links : List ℕ) where
       unfolding load_answer area_loaded
       words_left_over h = rw (le-leb area_words (length w) long, nodes, ne_eqb (length links % link_words) 0 h) (refl, refl)
 
-      module _ (whole : length links % link_words ≡ 0) where
-        -- 3: more links than a table has
-        pub words_many : table_words < length links → RefusedBy 3
+      -- 3: more links than a table has
+      pub words_many : length links % link_words ≡ 0 → table_words < length links → RefusedBy 3
+      unfolding load_answer area_loaded
+      words_many whole h =
+          rw (le-leb area_words (length w) long, nodes, eq-eqb (length links % link_words) 0 whole, lt-leb (length links) table_words h) (refl, refl)
+
+      -- 3: either of these
+      pub words_out : (length links % link_words ≡ 0 → ⊥) ⊎ ((length links % link_words ≡ 0) × table_words < length links) → RefusedBy 3
+      words_out (inl h) = words_left_over h
+      words_out (inr h) = words_many h.0 h.1
+
+      module _ (whole : length links % link_words ≡ 0) (few : length links ≤ table_words) where
+        -- 4: a link does not fit
+        pub link_out : links_fit (table_of n links) ≡ false → RefusedBy 4
         unfolding load_answer area_loaded
-        words_many h = rw (le-leb area_words (length w) long, nodes, eq-eqb (length links % link_words) 0 whole, lt-leb (length links) table_words h) (refl, refl)
+        link_out h = rw (le-leb area_words (length w) long, nodes, eq-eqb (length links % link_words) 0 whole, le-leb (length links) table_words few, h) (refl, refl)
 
-        module _ (few : length links ≤ table_words) where
-          -- 4: a link does not fit
-          pub link_out : links_fit (table_of n links) ≡ false → RefusedBy 4
-          unfolding load_answer area_loaded
-          link_out h = rw (le-leb area_words (length w) long, nodes, eq-eqb (length links % link_words) 0 whole, le-leb (length links) table_words few, h) (refl, refl)
-
-          -- every check passes
-          pub all_pass : links_fit (table_of n links) ≡ true → (Loaded ≡ load_answer w n links) × (loaded w n links ≡ area_loaded w n links)
-          unfolding load_answer area_loaded
-          all_pass h = rw (le-leb area_words (length w) long, nodes, eq-eqb (length links % link_words) 0 whole, le-leb (length links) table_words few, h) (refl, refl)
+        -- every check passes
+        pub all_pass : links_fit (table_of n links) ≡ true → (grants tt ≡ load_answer w n links) × (loaded w n links ≡ area_loaded w n links)
+        unfolding load_answer area_loaded
+        all_pass h = rw (le-leb area_words (length w) long, nodes, eq-eqb (length links % link_words) 0 whole, le-leb (length links) table_words few, h) (refl, refl)

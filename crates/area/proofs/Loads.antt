@@ -18,7 +18,7 @@ use Rattle.area.specs.Layout.{area_words, first_link, table_words}
 use Rattle.area.specs.Station.{words_at, station, table_in}
 use Rattle.area.specs.Formed.{SoundStation, WellFormed}
 use Rattle.area.specs.Checks.{Check, first_failing}
-use Rattle.area.specs.declared.Loading.TheVariants.{Refused, Loaded}
+use Rattle.area.specs.Refusals.{Reply, refuses, grants}
 use Rattle.area.specs.Load.{table_of, fresh, load_checks, load_answer, loaded, area_loaded}
 use Rattle.area.proofs.Checks.{each_passes, all_pass}
 use Rattle.area.proofs.Formed.{links_says}
@@ -96,19 +96,19 @@ module _ (w : List ℕ) (n : ℕ) (links : List ℕ) where
         }
 
   -- ---- by Load's answer, and the area that it leaves
-  accepted_passes : load_answer w n links ≡ Loaded → first_failing (load_checks w n links) ≡ 0
+  accepted_passes : load_answer w n links ≡ grants tt → first_failing (load_checks w n links) ≡ 0
   unfolding load_answer
-  accepted_passes e = (all_pass Refused (load_checks w n links) Loaded Loaded refusal e).0
+  accepted_passes e = (all_pass refuses (load_checks w n links) (grants tt) (grants tt) refusal e).0
     where
-      refusal : (number : ℕ) → Refused number ≡ Loaded → ⊥
+      refusal : (number : ℕ) → ◌≡◌ {A = Reply (Unit {0})} (refuses number) (grants tt) → ⊥
       refusal number f = zero_one cc
 
-  accepted_loaded : load_answer w n links ≡ Loaded → area_loaded w n links ≡ loaded w n links
+  accepted_loaded : load_answer w n links ≡ grants tt → area_loaded w n links ≡ loaded w n links
   unfolding area_loaded
   accepted_loaded e = rw (accepted_passes e) refl
 
-  pub accepted_station : load_answer w n links ≡ Loaded → station (area_loaded w n links) ≡ fresh n links
+  pub accepted_station : load_answer w n links ≡ grants tt → station (area_loaded w n links) ≡ fresh n links
   accepted_station e = ap station (accepted_loaded e) ∙ loaded_station (accepted_passes e)
 
-  pub accepted_formed : load_answer w n links ≡ Loaded → WellFormed (area_loaded w n links)
+  pub accepted_formed : load_answer w n links ≡ grants tt → WellFormed (area_loaded w n links)
   accepted_formed e = subst WellFormed (sym (accepted_loaded e)) (loaded_formed (accepted_passes e))

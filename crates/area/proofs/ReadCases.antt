@@ -9,9 +9,7 @@ use native.Mathlib.Omega.{arith}
 use lib.ListN.{length, get_or, drop}
 use borrow.Author.Tests.{le-leb, lt-leb, le-ltb, lt-ltb}
 use Rattle.area.specs.Layout.{area_words, most_circuits}
-use Rattle.area.specs.declared.ValueAnswer.{ValueAnswer}
-use Rattle.area.specs.declared.ValueAnswer.TheVariants.{Refused, Value}
-use Rattle.area.specs.Station.{held_in, station, table_in}
+use Rattle.area.specs.Station.{links_in, held_in, station, table_in}
 use Rattle.area.specs.Held.{number_at, numbers_from, ListsHeld}
 use Rattle.area.specs.Formed.{WellFormed, well_formed}
 use Rattle.area.specs.Refusals.{Reply, refuses, grants, Answered}
@@ -66,11 +64,11 @@ module _ (w l : List ℕ) where
       (λ p. (tt, listing_means w (held_in w) (unfailing (well_formed w) (formed_says w) (formed_test w) p.0).sound.differ))
 
   -- what the contract says of an answer `said` and a buffer l'
-  abbrev pub ListedAs : ValueAnswer → List ℕ → Type 0
+  abbrev pub ListedAs : Reply ℕ → List ℕ → Type 0
   ListedAs said l' = (said ≡ list_answer w (length l)) × ((l' ≡ listed w l) × ListMeans w l said l')
 
   -- it holds of the call's own
-  pub listed_as : (said : ValueAnswer) → said ≡ list_answer w (length l) → (l' : List ℕ) → l' ≡ listed w l → ListedAs said l'
+  pub listed_as : (said : Reply ℕ) → said ≡ list_answer w (length l) → (l' : List ℕ) → l' ≡ listed w l → ListedAs said l'
   unfolding list_answer listed
   listed_as said answers l' holds = (
     answers,
@@ -81,7 +79,7 @@ module _ (w l : List ℕ) where
         allowed = reply_allowed;
         answer =
             answers
-            ∙ ap (λ (h : ℕ). checked Refused (list_checks w (length l)) (Value h)) (sym count)
+            ∙ ap (λ (h : ℕ). checked refuses (list_checks w (length l)) (grants h)) (sym count)
             ∙ checked_made count_of refuses (list_checks w (length l)) (grants (numbers_from w 0 (held_in w)));
         buffer =
             holds
@@ -94,34 +92,35 @@ module _ (w l : List ℕ) where
       count : length (numbers_from w 0 (held_in w)) ≡ held_in w
       count = from_length (number_at w) 0 (held_in w)
 
-  pub list_unfit : well_formed w ≡ false → ListedAs (Refused 5) l
+  pub list_unfit : false ≡ well_formed w → ListedAs (refuses 5) l
   unfolding list_answer listed
-  list_unfit e = listed_as (Refused 5) (rw e refl) l (rw e refl)
+  list_unfit e = listed_as (refuses 5) (rw (← e) refl) l (rw (← e) refl)
 
-  module _ (formed : well_formed w ≡ true) where
-    pub list_short : length l < get_or w 2 0 → ListedAs (Refused 14) l
+  -- h circuits are held
+  module _ (formed : true ≡ well_formed w) (h : ℕ) (is : h ≡ held_in w) where
+    pub list_short : length l < h → ListedAs (refuses 14) l
     unfolding list_answer listed
-    list_short h =
-        listed_as (Refused 14) (rw (formed, lt-leb (get_or w 2 0) (length l) h) refl) l
-        (rw (formed, lt-leb (get_or w 2 0) (length l) h) refl)
+    list_short low =
+        let short = lt-leb (held_in w) (length l) (omega arith) in
+        listed_as (refuses 14) (rw (← formed, short) refl) l (rw (← formed, short) refl)
 
-    pub list_all : get_or w 2 0 ≤ length l → (l' : List ℕ) → l' ≡ numbers_from w 0 (get_or w 2 0) ++ drop (get_or w 2 0) l → ListedAs (Value (get_or w 2 0)) l'
+    pub list_all : h ≤ length l → (l' : List ℕ) → l' ≡ numbers_from w 0 h ++ drop h l → ListedAs (grants h) l'
     unfolding list_answer listed
-    list_all h l' holds =
-        listed_as (Value (get_or w 2 0)) (rw (formed, le-leb (get_or w 2 0) (length l) h) refl) l'
-        (holds ∙ rw (formed, le-leb (get_or w 2 0) (length l) h) refl)
+    list_all room l' stored =
+        let fits = le-leb (held_in w) (length l) (omega arith) in
+        listed_as (grants h) (rw (← formed, fits, is) refl) l' (stored ∙ rw (← formed, fits, is) refl)
 
 -- ---- free units of link i
 module _ (w : List ℕ) (i : ℕ) where
-  pub free_unfit : well_formed w ≡ false → Refused 5 ≡ free_answer w i
+  pub free_unfit : false ≡ well_formed w → refuses 5 ≡ free_answer w i
   unfolding free_answer
-  free_unfit e = rw e refl
+  free_unfit e = rw (← e) refl
 
-  module _ (formed : well_formed w ≡ true) where
-    pub free_past : get_or w 1 0 ≤ i → Refused 15 ≡ free_answer w i
+  module _ (formed : true ≡ well_formed w) where
+    pub free_past : links_in w ≤ i → refuses 15 ≡ free_answer w i
     unfolding free_answer
-    free_past h = rw (formed, le-ltb i (get_or w 1 0) h) refl
+    free_past h = rw (← formed, le-ltb i (links_in w) h) refl
 
-    pub free_value : i < get_or w 1 0 → Value (free_in w i) ≡ free_answer w i
+    pub free_value : i < links_in w → grants (free_in w i) ≡ free_answer w i
     unfolding free_answer free_in
-    free_value h = rw (formed, lt-ltb i (get_or w 1 0) h) refl
+    free_value h = rw (← formed, lt-ltb i (links_in w) h) refl

@@ -1,5 +1,5 @@
 -- The first rule that applies: there is one at most, its number is one of the rules', and a reply that the rules allow is a
--- refusal by it and by nothing else.
+-- refusal by it and by nothing else. And what the code passes on by `?` is a refusal with the number of what it was given.
 -- Assumes nothing.
 use Prim.Native.Nat.{ℕ}
 use mathlib.Core.Path.{◌≡◌, refl, sym, ap, ◌∙◌, subst}
@@ -10,7 +10,9 @@ use lib.Dec.{eqb}
 use borrow.Author.Tests.{eq-eqb}
 use Rattle.network.specs.Lists.{memb}
 use Rattle.network.proofs.Tests.{zero_one}
-use Rattle.area.specs.Refusals.{Rule, FirstApplies, Passes, Reply, refuses, grants, Answered}
+use Rattle.std.specs.Prelude.{Result, Ok, Err, IsErrAnd}
+use Rattle.area.specs.declared.refusal.Refusal.{Refusal}
+use Rattle.area.specs.Refusals.{Rule, FirstApplies, Passes, Reply, refuses, grants, Answered, number, numbered}
 
 -- ---- the rules
 pub one_first : (rs : List Rule) (j k : ℕ) → FirstApplies rs j → FirstApplies rs k → j ≡ k
@@ -49,3 +51,8 @@ module _ {A : Type 0} (G : A → Type 0) where
   refused_exactly rs (refuses j) h k =
       (λ e. let same : j ≡ k = cc in subst (FirstApplies rs) same h, λ f. ap refuses (one_first rs j k h f))
   refused_exactly rs (grants b) h k = (λ e. absurd (zero_one cc), λ f. absurd (none_first rs k h.0 f))
+
+-- ---- the code's answers
+pub passed_on : {A : Type 0} (r : Result A Refusal) (given e : Refusal) → IsErrAnd r (λ x. x ≡ given) → given ≡ e → numbered r ≡ refuses (number e)
+passed_on (Ok a) given e told is = absurd told
+passed_on (Err x) given e told is = ap (λ (y : Refusal). refuses (number y)) (told ∙ is)

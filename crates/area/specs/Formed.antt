@@ -10,7 +10,7 @@ use Rattle.network.specs.NodeSet.{member, inserted}
 use Rattle.network.specs.Net.{IsPath}
 use Rattle.network.specs.Words.{field}
 use Rattle.area.specs.Layout.{area_words, least_number, most_circuits, most_number}
-use Rattle.area.specs.Station.{Table, Circuit, Station, tail_of, head_of, delay_of, cost_of, capacity_of, station}
+use Rattle.area.specs.Station.{Table, Circuit, Station, tail_of, head_of, delay_of, cost_of, capacity_of, circuit_of, circuit_at, circuits, station}
 use Rattle.area.specs.Books.{usage, numbers, holds, whole}
 
 -- ---- the statement
@@ -95,6 +95,11 @@ unfoldable pub held_fit : ℕ → List ℕ → List Circuit → Bool
 unfolding circuit_fits
 held_fit m words [] = true
 held_fit m words (c ∷ cs) = held_fit m words cs && (circuit_fits m words c && not (holds cs c.number))
+
+-- the same at place j of an area: circuit j fits, and none before it has its number
+unfoldable pub place_fits : ℕ → List ℕ → List ℕ → ℕ → Bool
+unfolding circuit_fits circuit_of
+place_fits m words w j = circuit_fits m words (circuit_at w j) && not (holds (circuits w j) (circuit_at w j).number)
 
 unfoldable pub units_fit : ℕ → List ℕ → List Circuit → Bool
 unfolding every

@@ -1,6 +1,6 @@
 -- The numbers of held circuits, by their places: finding one, which admission and release do, and listing all.
 -- Assumes nothing.
-use Rattle.std.specs.Prelude.{ℕ, ◌≡◌, List, eqb, length, get_or}
+use Rattle.std.specs.Prelude.{ℕ, ◌≡◌, ◌<◌, List, Option, None, Some, eqb, length, get_or}
 use Rattle.network.specs.Lists.{memb, Distinct, from}
 use Rattle.network.specs.Loops.{first}
 use Rattle.area.specs.Station.{Circuit, place}
@@ -13,6 +13,11 @@ number_at w j = get_or w (place j) 0
 unfoldable pub found_at : List ℕ → ℕ → ℕ → ℕ
 unfolding first
 found_at w h c = first (λ j. eqb c (number_at w j)) h
+
+-- what finding gives: that place, or none where no circuit has the number
+abbrev pub FoundAt : List ℕ → ℕ → ℕ → Option ℕ → Type 0
+FoundAt w h c None = found_at w h c ≡ h
+FoundAt w h c (Some j) = (j < h) × (j ≡ found_at w h c)
 
 -- the numbers of n circuits from place j on. Document 01 leaves the order open; here it is that of the places.
 abbrev pub numbers_from : List ℕ → ℕ → ℕ → List ℕ

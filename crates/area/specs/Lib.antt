@@ -1,6 +1,6 @@
 -- The files of the area's definitions, in reading order: what its words say and what the calls ask of it (Station to
--- Order), what Load and the calls that only read answer, what a store moves, and what the functions of `station` rely
--- on.
+-- Order), what Load and the calls that only read answer, what a store moves, and each link's free units as the
+-- check of an area counts them.
 pub mod Layout
 pub mod Station
 pub mod Books
@@ -14,5 +14,3 @@ pub mod Reads
 pub mod Moves
 pub mod Units
 pub mod FreeIn
-pub mod Usable
-pub mod Parts

@@ -4,10 +4,9 @@ use Rattle.std.specs.Prelude.{ℕ, ◌+◌, ◌/◌, ◌%◌, ◌&&◌, List, []
 use Rattle.network.specs.Limits.{least_nodes, link_words, most_nodes}
 use Rattle.network.specs.Ranges.{in_range}
 use Rattle.area.specs.Layout.{area_words, table_words}
-use Rattle.area.specs.declared.Loading.{Loading}
-use Rattle.area.specs.declared.Loading.TheVariants.{Refused, Loaded}
 use Rattle.area.specs.Station.{Table, Station}
 use Rattle.area.specs.Formed.{links_fit}
+use Rattle.area.specs.Refusals.{Reply, refuses, grants}
 use Rattle.area.specs.Checks.{Check, ◌unless◌, checked}
 
 -- the table that n and the link words describe
@@ -26,10 +25,10 @@ load_checks w n links =
     ∷ (4 unless links_fit (table_of n links))
     ∷ []
 
--- document 01's number for each refusal
-unfoldable pub load_answer : List ℕ → ℕ → List ℕ → Loading
+-- document 01's number for each refusal; an accepted load grants nothing but that it was accepted
+unfoldable pub load_answer : List ℕ → ℕ → List ℕ → Reply (Unit {0})
 unfolding links_fit
-load_answer w n links = checked Refused (load_checks w n links) Loaded
+load_answer w n links = checked refuses (load_checks w n links) (grants tt)
 
 -- n, m, 0 and the links; all other words keep their contents
 unfoldable pub loaded : List ℕ → ℕ → List ℕ → List ℕ

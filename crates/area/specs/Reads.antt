@@ -1,8 +1,6 @@
 -- Listing and free units: what they answer, the buffer after, and what a listing means.
 -- Assumes nothing.
 use Rattle.std.specs.Prelude.{ℕ, ◌<◌, ◌≡◌, List, [], ◌∷◌, ◌++◌, ltb, leb, length, drop}
-use Rattle.area.specs.declared.ValueAnswer.{ValueAnswer}
-use Rattle.area.specs.declared.ValueAnswer.TheVariants.{Refused, Value}
 use Rattle.area.specs.Station.{station, links_in, held_in}
 use Rattle.area.specs.Books.{free}
 use Rattle.area.specs.Held.{numbers_from, ListsHeld}
@@ -15,9 +13,9 @@ abbrev pub list_checks : List ℕ → ℕ → List Check
 list_checks w buffer = (5 unless well_formed w) ∷ (14 unless leb (held_in w) buffer) ∷ []
 
 -- h, or the refusal's number
-unfoldable pub list_answer : List ℕ → ℕ → ValueAnswer
+unfoldable pub list_answer : List ℕ → ℕ → Reply ℕ
 unfolding well_formed
-list_answer w buffer = checked Refused (list_checks w buffer) (Value (held_in w))
+list_answer w buffer = checked refuses (list_checks w buffer) (grants (held_in w))
 
 -- the h numbers in the first words; the words past them keep theirs
 unfoldable pub listed : List ℕ → List ℕ → List ℕ
@@ -27,9 +25,9 @@ listed w l = checked (λ _. l) (list_checks w (length l)) (numbers_from w 0 (hel
 -- ---- what a listing means, with no algorithm
 -- the answer and the buffer after, for a reply that grants these numbers: how many they are, and the numbers in the first
 -- words, where the words past them keep theirs
-abbrev pub count_of : Reply (List ℕ) → ValueAnswer
-count_of (refuses k) = Refused k
-count_of (grants ns) = Value (length ns)
+abbrev pub count_of : Reply (List ℕ) → Reply ℕ
+count_of (refuses k) = refuses k
+count_of (grants ns) = grants (length ns)
 
 abbrev pub buffer_after : Reply (List ℕ) → List ℕ → List ℕ
 buffer_after (refuses k) l = l
@@ -40,7 +38,7 @@ list_rules w buffer = (5 when (WellFormed w → ⊥)) ∷ (14 when buffer < leng
 
 -- `said` is what a listing into the buffer l answers, and l' what it leaves there: there is a reply that the rules allow, the
 -- held circuits' numbers in any order, and these are its answer and its buffer
-pub record ListMeans (w l : List ℕ) (said : ValueAnswer) (l' : List ℕ) : Type 0 where
+pub record ListMeans (w l : List ℕ) (said : Reply ℕ) (l' : List ℕ) : Type 0 where
   pub reply : Reply (List ℕ)
   pub allowed : Answered (ListsHeld (station w).held) (list_rules w (length l)) reply
   pub answer : said ≡ count_of reply
@@ -51,6 +49,6 @@ abbrev pub free_checks : List ℕ → ℕ → List Check
 free_checks w i = (5 unless well_formed w) ∷ (15 unless ltb i (links_in w)) ∷ []
 
 -- the link's free units, or the refusal's number
-unfoldable pub free_answer : List ℕ → ℕ → ValueAnswer
+unfoldable pub free_answer : List ℕ → ℕ → Reply ℕ
 unfolding well_formed station
-free_answer w i = checked Refused (free_checks w i) (Value (free (station w) i))
+free_answer w i = checked refuses (free_checks w i) (grants (free (station w) i))

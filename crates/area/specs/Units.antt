@@ -1,10 +1,6 @@
 -- Free units as the check of an area counts them: a path's units are taken from those of its links, link by link.
 -- Assumes nothing.
-use Rattle.std.specs.Prelude.{ℕ, ◌-◌, Bool, true, cond, ◌&&◌, List, [], ◌∷◌, leb, get_or, set}
-use Rattle.network.specs.Words.{field}
-use Rattle.area.specs.Station.{Circuit}
-use Rattle.area.specs.Books.{usage}
-use Rattle.area.specs.Formed.{units_fit}
+use Rattle.std.specs.Prelude.{ℕ, ◌-◌, Bool, true, ◌&&◌, List, [], ◌∷◌, leb, get_or, set}
 
 -- link i has u units less
 abbrev pub less : ℕ → ℕ → List ℕ → List ℕ
@@ -19,8 +15,3 @@ enough u (i ∷ p) free = leb u (get_or free i 0) && enough u p (less u i free)
 unfoldable pub taken : ℕ → List ℕ → List ℕ → List ℕ
 taken u [] free = free
 taken u (i ∷ p) free = taken u p (less u i free)
-
--- each link's capacity less the circuits' units; 0 for every link where they take more than a capacity
-unfoldable pub left : ℕ → List ℕ → List Circuit → ℕ → ℕ
-unfolding units_fit
-left m words cs i = cond (units_fit m words cs) (field words i 4 - usage cs i) 0

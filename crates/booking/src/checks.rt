@@ -1,32 +1,45 @@
-// The checks that a quote and an admission share, up to 8, in document 01's order.
+// The checks past that of the area, in document 01's order: those that a quote and an admission share, up to 8, and those of an
+// admission's circuit number.
 ghost use Rattle.std.specs.Prelude.{◌≡◌};
-ghost use Rattle.area.specs.Formed.{well_formed};
-ghost use Rattle.area.specs.Checks.{first_failing};
-ghost use Rattle.rules.specs.Calls.{quote_checks};
+ghost use Rattle.area.specs.Refusals.{numbered};
+ghost use Rattle.rules.specs.Calls.{request_checked, number_checked};
 
-use crate::request::request_fits;
+use crate::request::{number_fits, request_fits};
+use area::Refusal;
 use network::Request;
 use network::limits::{PATH_WORDS, WORK_WORDS};
-use station::layout;
+use station::{Station, layout};
 
-// The first number of 5, 6, 7 and 8 that applies, or 0 where none does. `formed` says whether the area is well formed;
-// `work` and `path` are the lengths of work memory and path buffer. Both callers have `formed` from the check of the
-// same area.
-pub fn refusal(formed: bool, area: &[u32], work: usize, path: usize, r: Request) -> u32
-    requires { formed ≡ well_formed area.now }
-    ensures { result ≡ first_failing (quote_checks area.now work path r) }
+// The first of 6, 7 and 8 that applies. `work` and `path` are the lengths of work memory and path buffer.
+pub fn check_request(
+    station: &Station<'_>,
+    work: usize,
+    path: usize,
+    r: Request,
+) -> Result<(), Refusal>
+    ensures { numbered result ≡ request_checked station.now.area.now work path r }
 {
-    if !formed {
-        return 5;
-    }
     if work < WORK_WORDS {
-        return 6;
+        return Err(Refusal::WorkShort);
     }
     if path < PATH_WORDS {
-        return 7;
+        return Err(Refusal::PathShort);
     }
-    if !request_fits(area[layout::NODES], r) {
-        return 8;
+    if !request_fits(station.nodes(), r) {
+        return Err(Refusal::RequestRange);
     }
-    0
+    Ok(())
+}
+
+// The first of 11 and 12 that applies to a circuit of this number.
+pub fn check_number(station: &Station<'_>, number: u32) -> Result<(), Refusal>
+    ensures { numbered result ≡ number_checked station.now.area.now number }
+{
+    if !number_fits(station, number) {
+        return Err(Refusal::CircuitNumber);
+    }
+    if layout::MOST_CIRCUITS <= station.held() {
+        return Err(Refusal::CircuitsFull);
+    }
+    Ok(())
 }

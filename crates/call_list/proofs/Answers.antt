@@ -17,13 +17,13 @@ use Rattle.search.specs.ebf.Solve.{path_in, answer_in, solve_in, solve}
 use Rattle.search.specs.Distance.{spread, layer, distance}
 use Rattle.search.specs.Heuristic.{tried, search}
 use Rattle.search.specs.Result.{outcome}
+use Rattle.area.specs.Refusals.{grants}
 use Rattle.area.specs.Layout.{area_words}
 use Rattle.area.specs.Station.{table_in, circuit_of}
 use Rattle.area.specs.Order.{Same, next}
-use Rattle.area.specs.declared.Loading.TheVariants.{Loaded}
 use Rattle.area.specs.Load.{load_answer, area_loaded}
 use Rattle.rules.specs.Calls.{quote, admission, booked, release, cleared}
-use Rattle.ledger.specs.History.{answers, path_given, release_given, bookings, remaining}
+use Rattle.ledger.specs.History.{answers, path_given, bookings, remaining}
 use Rattle.ledger.proofs.Striking.{none_struck, all_remain}
 use Rattle.ledger.proofs.Demands.{third_demand}
 use Rattle.cases.specs.Document01.{links_a, blank}
@@ -33,10 +33,10 @@ use Rattle.call_list.proofs.Runs.{load_accepts, struck_calls, end_of, runs_agree
 
 -- ---- from an area of zeros
 computed : (answers (area_loaded blank 4 links_a) (calls false) ≡ expected) × (bookings (end_of false blank) ≡ held)
-unfolding calls rows path_given release_given area_loaded quote admission booked release cleared table_in circuit_of outcome search tried solve solve_in answer_in path_in ebf rounds round column offered relaxed improved initialised filled cell cells traced step_back place_back noted follow distance layer spread problem_one problem_two scaled iter first
+unfolding calls rows path_given area_loaded quote admission booked release cleared table_in circuit_of outcome search tried solve solve_in answer_in path_in ebf rounds round column offered relaxed improved initialised filled cell cells traced step_back place_back noted follow distance layer spread problem_one problem_two scaled iter first
 computed = (refl, refl)
 
-blank_accepted : load_answer blank 4 links_a ≡ Loaded
+blank_accepted : load_answer blank 4 links_a ≡ grants tt
 blank_accepted = load_accepts blank (omega (arith, length-replicate {A = ℕ} area_words 0))
 
 -- ---- from any area that is long enough

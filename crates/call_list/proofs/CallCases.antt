@@ -5,73 +5,69 @@ use mathlib.Core.Path.{◌≡◌, refl, sym, ap, ap₂, ◌∙◌}
 use mathlib.Core.Bool.{Bool, true, false, ◌&&◌}
 use mathlib.Core.List.{List, [], ◌∷◌, ◌++◌}
 use native.Mathlib.Omega.{arith}
-use borrow.Author.Tests.{eq-eqb, ne_eqb}
-use lib.ListN.{length, get_or, take, replicate}
+use lib.ListN.{length, take, replicate}
 use Rattle.network.specs.Limits.{path_words, work_words}
+use Rattle.network.specs.declared.Grant.{Grant as Numbers}
+use Rattle.area.specs.Refusals.{Reply}
+use Rattle.rules.specs.Replies.{answer_of, path_after}
+use Rattle.rules.specs.Calls.{quote, admission, booked}
+use Rattle.ledger.specs.History.{Lending, area_after, links_of, Given, of_request, path_given, given_to, area_at_end}
 use Rattle.network.specs.declared.Request.{Request}
-use Rattle.rules.specs.declared.RequestAnswer.{RequestAnswer}
-use Rattle.rules.specs.declared.ReleaseAnswer.{ReleaseAnswer}
-use Rattle.rules.specs.Replies.{answer_of, path_after, release_answer_of}
-use Rattle.rules.specs.Calls.{quote, admission, booked, release, cleared}
-use Rattle.ledger.specs.History.{Lending, area_after, links_of, Given, of_request, of_release, path_given, release_given, given_to, area_at_end}
-use Rattle.call_list.specs.Calls.{rows, kind_of, is_quote, request_of, call_of, work_lent, path_lent, work_filler, path_filler, filled_work, filled_path, lent, call_at, calls_from}
+use Rattle.cases.specs.declared.Asked.{Asked}
+use Rattle.cases.specs.declared.Asked.TheVariants.{Quote, Admission}
+use Rattle.call_list.specs.declared.Lent.{Lent}
+use Rattle.call_list.specs.declared.Row.{Row}
+use Rattle.call_list.specs.declared.Row.TheVariants.{Asks}
+use Rattle.call_list.specs.Calls.{row_at, is_quote, calling, work_lent, path_lent, work_filler, path_filler, filled_work, filled_path, lent, call_at, calls_from}
 
--- ---- a row's call, on an area w: what it gives, and the area w' after
-module _ (w work path r : List ℕ) where
-  abbrev pub Made : Given → List ℕ → Type 0
-  Made g w' = (g ≡ given_to w (call_of r work path)) × (w' ≡ area_after w (call_of r work path))
+-- ---- a call on an area w: what it gives, and the area w' after
+abbrev pub Made : List ℕ → Lending → Given → List ℕ → Type 0
+Made w c g w' = (g ≡ given_to w c) × (w' ≡ area_after w c)
 
-  -- by the code's answer `said`, and for a path the path buffer p after
-  module _ (q : Request) (asked : q ≡ request_of r) (said : RequestAnswer) (p : List ℕ) where
-    pub quoted : is_quote (kind_of r) ≡ true → said ≡ answer_of (quote w (length work) (length path) q)
-        → p ≡ path_after (quote w (length work) (length path) q) path
-        → Made (of_request said (take (links_of said) p)) w
-    unfolding call_of path_given
-    quoted kind e f = rw kind (ap₂ (λ (y : RequestAnswer) (l : List ℕ). of_request y (take (links_of y) l)) (e ∙ rw asked) (f ∙ rw asked), refl)
+-- a request's, by the code's answer `said` and the path buffer p after
+module _ (w work path : List ℕ) (a : Asked) (said : Reply Numbers) (p : List ℕ) where
+  pub quoted : (r : Request) → a ≡ Quote r → said ≡ answer_of (quote w (length work) (length path) r)
+      → p ≡ path_after (quote w (length work) (length path) r) path
+      → Made w (calling a work path) (of_request said (take (links_of said) p)) w
+  unfolding path_given
+  quoted r is e f = rw is (ap₂ (λ (y : Reply Numbers) (l : List ℕ). of_request y (take (links_of y) l)) e f, refl)
 
-    pub admitted : is_quote (kind_of r) ≡ false → (kind_of r ≡ 2 → ⊥) → said ≡ answer_of (admission w (length work) (length path) (get_or r 1 0) q)
-        → p ≡ path_after (admission w (length work) (length path) (get_or r 1 0) q) path
-        → (w' : List ℕ) → w' ≡ booked w (get_or r 1 0) q.units (admission w (length work) (length path) (get_or r 1 0) q)
-        → Made (of_request said (take (links_of said) p)) w'
-    unfolding call_of path_given
-    admitted kind other e f w' g =
-        rw (kind, ne_eqb (kind_of r) 2 other)
-        (ap₂ (λ (y : RequestAnswer) (l : List ℕ). of_request y (take (links_of y) l)) (e ∙ rw asked) (f ∙ rw asked), g ∙ rw asked)
-
-  pub released : is_quote (kind_of r) ≡ false → kind_of r ≡ 2 → (said : ReleaseAnswer) → said ≡ release_answer_of (release w (get_or r 1 0))
-      → (w' : List ℕ) → w' ≡ cleared w (get_or r 1 0) (release w (get_or r 1 0))
-      → Made (of_release said) w'
-  unfolding call_of release_given
-  released kind two said e w' g = rw (kind, eq-eqb (kind_of r) 2 two) (ap of_release e, g)
+  pub admitted : (c : ℕ) (r : Request) → a ≡ Admission c r
+      → said ≡ answer_of (admission w (length work) (length path) c r)
+      → p ≡ path_after (admission w (length work) (length path) c r) path
+      → (w' : List ℕ) → w' ≡ booked w c r.terms.units (admission w (length work) (length path) c r)
+      → Made w (calling a work path) (of_request said (take (links_of said) p)) w'
+  unfolding path_given
+  admitted c r is e f w' g = rw is (ap₂ (λ (y : Reply Numbers) (l : List ℕ). of_request y (take (links_of y) l)) e f, g)
 
 -- ---- with the words that it is lent
-module _ (struck : Bool) (k : ℕ) (r : List ℕ) where
-  pub work_as : (n word : ℕ) → n ≡ work_lent (kind_of r) → word ≡ work_filler struck k
-      → take n (replicate work_words word) ≡ filled_work struck k (kind_of r)
+module _ (struck : Bool) (k : ℕ) (l : Lent) where
+  pub work_as : (n word : ℕ) → n ≡ work_lent l → word ≡ work_filler struck k
+      → take n (replicate work_words word) ≡ filled_work struck k l
   unfolding filled_work
   work_as n word many is =
-      ap (λ (m : ℕ). take m (replicate work_words word)) many ∙ ap (λ (a : ℕ). take (work_lent (kind_of r)) (replicate work_words a)) is
+      ap (λ (m : ℕ). take m (replicate work_words word)) many ∙ ap (λ (a : ℕ). take (work_lent l) (replicate work_words a)) is
 
-  pub path_as : (n word : ℕ) → n ≡ path_lent (kind_of r) → word ≡ path_filler struck → take n (replicate path_words word) ≡ filled_path struck (kind_of r)
+  pub path_as : (n word : ℕ) → n ≡ path_lent l → word ≡ path_filler struck → take n (replicate path_words word) ≡ filled_path struck l
   unfolding filled_path
   path_as n word many is =
-      ap (λ (m : ℕ). take m (replicate path_words word)) many ∙ ap (λ (a : ℕ). take (path_lent (kind_of r)) (replicate path_words a)) is
+      ap (λ (m : ℕ). take m (replicate path_words word)) many ∙ ap (λ (a : ℕ). take (path_lent l) (replicate path_words a)) is
 
-  pub lent_as : (work path : List ℕ) → work ≡ filled_work struck k (kind_of r) → path ≡ filled_path struck (kind_of r)
-      → call_of r work path ≡ lent struck k r
+  pub lent_as : (a : Asked) (work path : List ℕ) → work ≡ filled_work struck k l → path ≡ filled_path struck l
+      → calling a work path ≡ lent struck k (Asks a l)
   unfolding lent
-  lent_as work path e f =
-      ap (λ (l : List ℕ). call_of r l path) e ∙ ap (call_of r (filled_work struck k (kind_of r))) f
+  lent_as a work path e f =
+      ap (λ (words : List ℕ). calling a words path) e ∙ ap (calling a (filled_work struck k l)) f
 
--- ---- row k of the list, whose words are r
-module _ (struck : Bool) (k : ℕ) (r : List ℕ) (is : r ≡ get_or rows k []) where
+-- ---- row k of the list
+module _ (struck : Bool) (k : ℕ) (r : Row) (is : r ≡ row_at k) where
   -- a quote, and quotes are struck
-  pub skipped : (w : List ℕ) → (struck && is_quote (kind_of r)) ≡ true → w ≡ area_at_end w (call_at struck k)
+  pub skipped : (w : List ℕ) → (struck && is_quote r) ≡ true → w ≡ area_at_end w (call_at struck k)
   unfolding call_at
   skipped w q = rw (rw is at q)
 
   -- or not
-  pub called : (w w' : List ℕ) → (struck && is_quote (kind_of r)) ≡ false → w' ≡ area_after w (lent struck k r)
+  pub called : (w w' : List ℕ) → (struck && is_quote r) ≡ false → w' ≡ area_after w (lent struck k r)
       → w' ≡ area_at_end w (call_at struck k)
   unfolding call_at
   called w w' q e = rw (rw is at q) (rw is at e)

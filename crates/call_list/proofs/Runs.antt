@@ -6,73 +6,72 @@ use mathlib.Core.Path.{◌≡◌, refl, sym, ap, ◌∙◌}
 use mathlib.Core.Bool.{Bool, true, false, cond}
 use mathlib.Core.List.{List, [], ◌∷◌, ◌++◌}
 use native.Mathlib.Omega.{arith}
-use lib.Dec.{eqb}
-use lib.ListN.{length, get_or, take, replicate, length-take, length-replicate}
+use lib.ListN.{length, take, replicate, length-take, length-replicate}
 use Rattle.network.specs.Limits.{path_words, work_words}
 use Rattle.network.proofs.Tests.{by_bool}
+use Rattle.area.specs.Refusals.{grants}
 use Rattle.area.specs.Layout.{area_words}
 use Rattle.area.specs.Formed.{links_fit}
 use Rattle.area.specs.Order.{Same}
-use Rattle.area.specs.declared.Loading.TheVariants.{Loaded}
 use Rattle.area.specs.Load.{load_answer, area_loaded}
 use Rattle.area.proofs.LoadCases.{all_pass}
-use Rattle.ledger.specs.Entries.{quoting, admitting, releasing}
 use Rattle.ledger.specs.History.{Lending, measured, answers, area_at_end, bookings, Struck, end, strike, keep, remaining}
 use Rattle.ledger.proofs.Demands.{third_demand}
 use Rattle.cases.specs.Document01.{links_a}
-use Rattle.call_list.specs.Calls.{rows, kind_of, is_quote, request_of, call_of, work_lent, path_lent, work_filler, path_filler, filled_work, filled_path, lent, calls_from, calls}
+use Rattle.cases.specs.declared.Asked.{Asked}
+use Rattle.cases.specs.declared.Asked.TheVariants.{Quote, Admission}
+use Rattle.call_list.specs.declared.Lent.{Lent}
+use Rattle.call_list.specs.declared.Row.{Row}
+use Rattle.call_list.specs.declared.Row.TheVariants.{Asks, Releases}
+use Rattle.call_list.specs.Calls.{row_at, is_quote, calling, work_lent, path_lent, work_filler, path_filler, filled_work, filled_path, lent, calls_from, calls}
 
--- ---- a row's call
+-- ---- a request's call
 -- measured, it goes by the lengths of what it is lent
-measured_cond : (a b : Bool) (c d e : Lending)
-    → measured (cond a c (cond b d e)) ≡ cond a (measured c) (cond b (measured d) (measured e))
-measured_cond true b c d e = refl
-measured_cond false true c d e = refl
-measured_cond false false c d e = refl
-
-measured_call : (r work path : List ℕ) → measured (call_of r work path) ≡ call_of r (length work) (length path)
-unfolding call_of
-measured_call r work path =
-    measured_cond (is_quote (kind_of r)) (eqb (kind_of r) 2) (quoting work path (request_of r)) (releasing (get_or r 1 0)) (admitting work path (get_or r 1 0) (request_of r))
+measured_calling : (a : Asked) (work path : List ℕ) → measured (calling a work path) ≡ calling a (length work) (length path)
+measured_calling (Quote r) work path = refl
+measured_calling (Admission c r) work path = refl
 
 -- ---- the same row in the two runs
 -- it is lent as many words
 length_lent : (m n a b : ℕ) → length (take m (replicate n a)) ≡ length (take m (replicate n b))
 length_lent m n a b = simp (length-take, length-replicate)
 
-work_length : (k kind : ℕ) → length (filled_work false k kind) ≡ length (filled_work true k kind)
+work_length : (k : ℕ) (l : Lent) → length (filled_work false k l) ≡ length (filled_work true k l)
 unfolding filled_work
-work_length k kind = length_lent (work_lent kind) work_words (work_filler false k) (work_filler true k)
+work_length k l = length_lent (work_lent l) work_words (work_filler false k) (work_filler true k)
 
-path_length : (kind : ℕ) → length (filled_path false kind) ≡ length (filled_path true kind)
+path_length : (l : Lent) → length (filled_path false l) ≡ length (filled_path true l)
 unfolding filled_path
-path_length kind = length_lent (path_lent kind) path_words (path_filler false) (path_filler true)
+path_length l = length_lent (path_lent l) path_words (path_filler false) (path_filler true)
 
-measured_lent : (k : ℕ) (r : List ℕ) → measured (lent false k r) ≡ measured (lent true k r)
+measured_lent : (k : ℕ) (r : Row) → measured (lent false k r) ≡ measured (lent true k r)
 unfolding lent
-measured_lent k r =
-    measured_call r _ _
-    ∙ ap (λ (l : ℕ). call_of r l (length (filled_path false (kind_of r)))) (work_length k (kind_of r))
-    ∙ ap (call_of r (length (filled_work true k (kind_of r)))) (path_length (kind_of r))
-    ∙ sym (measured_call r _ _)
+measured_lent k (Asks a l) =
+    measured_calling a _ _
+    ∙ ap (λ (n : ℕ). calling a n (length (filled_path false l))) (work_length k l)
+    ∙ ap (calling a (length (filled_work true k l))) (path_length l)
+    ∙ sym (measured_calling a _ _)
+measured_lent k (Releases c) = refl
 
 -- so the second run's list is the first one's, with its quotes struck
-struck_quote : (k : ℕ) (r : List ℕ) (cs ds : List Lending) → is_quote (kind_of r) ≡ true → Struck cs ds → Struck (lent false k r ∷ cs) ds
+struck_quote : (k : ℕ) (r : Row) (cs ds : List Lending) → is_quote r ≡ true → Struck cs ds → Struck (lent false k r ∷ cs) ds
 unfolding lent
-struck_quote k r cs ds e s = rw e (strike s)
+struck_quote k (Asks (Quote r) l) cs ds e s = strike s
+struck_quote k (Asks (Admission c r) l) cs ds e s = absurd (cc)
+struck_quote k (Releases c) cs ds e s = absurd (cc)
 
-struck_call : (k : ℕ) (r : List ℕ) (cs ds : List Lending) → Struck cs ds
-    → Struck (lent false k r ∷ cs) (cond (is_quote (kind_of r)) [] (lent true k r ∷ []) ++ ds)
+struck_call : (k : ℕ) (r : Row) (cs ds : List Lending) → Struck cs ds
+    → Struck (lent false k r ∷ cs) (cond (is_quote r) [] (lent true k r ∷ []) ++ ds)
 struck_call k r cs ds s =
-    by_bool (is_quote (kind_of r)) (λ e. rw e (struck_quote k r cs ds e s)) (λ e. rw e (keep (measured_lent k r) s))
+    by_bool (is_quote r) (λ e. rw e (struck_quote k r cs ds e s)) (λ e. rw e (keep (measured_lent k r) s))
 
 pub struck_calls : (k n : ℕ) → Struck (calls_from false k n) (calls_from true k n)
 unfolding calls_from
 struck_calls k zero = end
-struck_calls k (suc n) = struck_call k (get_or rows k []) _ _ (struck_calls (suc k) n)
+struck_calls k (suc n) = struck_call k (row_at k) _ _ (struck_calls (suc k) n)
 
 -- ---- the load
-pub load_accepts : (w : List ℕ) → area_words ≤ length w → load_answer w 4 links_a ≡ Loaded
+pub load_accepts : (w : List ℕ) → area_words ≤ length w → load_answer w 4 links_a ≡ grants tt
 unfolding links_fit
 load_accepts w long = sym (all_pass w 4 links_a long refl refl (omega arith) refl).0
 
@@ -87,7 +86,7 @@ module _ (w v : List ℕ) where
       (answers (area_loaded v 4 links_a) (calls true) ≡ remaining (struck_calls 0 25) (answers (area_loaded w 4 links_a) (calls false)))
       × Same (bookings (end_of true v)) (bookings (end_of false w))
 
-  pub accepted_agree : load_answer w 4 links_a ≡ Loaded → load_answer v 4 links_a ≡ Loaded → Agree
+  pub accepted_agree : load_answer w 4 links_a ≡ grants tt → load_answer v 4 links_a ≡ grants tt → Agree
   unfolding calls
   accepted_agree accepted accepted' =
       (third_demand 4 links_a w accepted (calls false)).struck v accepted' (calls true) (struck_calls 0 25)
@@ -97,6 +96,6 @@ module _ (w v : List ℕ) where
   runs_agree long long' = accepted_agree (load_accepts w long) (load_accepts v long')
 
   -- of the areas w' and v' that the program leaves
-  pub same_bookings : (w' v' : List ℕ) → load_answer w 4 links_a ≡ Loaded → load_answer v 4 links_a ≡ Loaded → w' ≡ end_of false w → v' ≡ end_of true v
+  pub same_bookings : (w' v' : List ℕ) → load_answer w 4 links_a ≡ grants tt → load_answer v 4 links_a ≡ grants tt → w' ≡ end_of false w → v' ≡ end_of true v
       → Same (bookings v') (bookings w')
   same_bookings w' v' accepted accepted' e f = rw (e, f) (accepted_agree accepted accepted').1

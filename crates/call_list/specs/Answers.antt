@@ -1,55 +1,56 @@
 -- The answers to the list of calls and the bookings at its end, as docs/history.md calculates them by hand.
 -- Assumes nothing.
 use Rattle.std.specs.Prelude.{ℕ, List, [], ◌∷◌, length}
+use Rattle.network.specs.declared.answer.Reduction.{Reduction}
+use Rattle.network.specs.declared.answer.Reduction.TheVariants.{One, Two}
+use Rattle.area.specs.Refusals.{refuses, grants}
 use Rattle.area.specs.Station.{Circuit}
-use Rattle.rules.specs.declared.RequestAnswer.TheVariants.{Refused, Granted}
-use Rattle.rules.specs.declared.ReleaseAnswer.TheVariants as release
 use Rattle.ledger.specs.History.{Given, of_request, of_release}
 use Rattle.cases.specs.Document01.{three}
 
 abbrev refused : ℕ → Given
-refused k = of_request (Refused k) []
+refused k = of_request (refuses k) []
 
-abbrev granted : ℕ → ℕ → ℕ → List ℕ → Given
-granted which d c p = of_request (Granted (record { problem = which; delay = d; cost = c; links = length p })) p
+abbrev granted : Reduction → ℕ → ℕ → List ℕ → Given
+granted which d c p = of_request (grants (record { problem = which; delay = d; cost = c; links = length p })) p
 
 abbrev unreleased : ℕ → Given
-unreleased k = of_release (release.Refused k)
+unreleased k = of_release (refuses k)
 
 abbrev released : Given
-released = of_release release.Released
+released = of_release (grants tt)
 
 -- by the three links, and by link 3
-abbrev by_three : ℕ → Given
+abbrev by_three : Reduction → Given
 by_three which = granted which 6 15 three
 
 abbrev by_link3 : Given
-by_link3 = granted 1 9 1 (3 ∷ [])
+by_link3 = granted One 9 1 (3 ∷ [])
 
 abbrev pub expected : List Given
 expected =
     -- rows 0 to 9
-    by_three 1
-    ∷ by_three 1
-    ∷ by_three 1
+    by_three One
+    ∷ by_three One
+    ∷ by_three One
     ∷ refused 10
     ∷ refused 11
     ∷ refused 11
     ∷ by_link3
     ∷ refused 9
-    ∷ by_three 1
+    ∷ by_three One
     ∷ refused 10
     -- rows 10 to 17
     ∷ released
-    ∷ by_three 1
+    ∷ by_three One
     ∷ unreleased 13
-    ∷ by_three 2
+    ∷ by_three Two
     ∷ refused 10
     ∷ refused 6
     ∷ refused 7
     ∷ refused 8
     -- rows 18 to 24
-    ∷ granted 1 4 10 (1 ∷ 2 ∷ [])
+    ∷ granted One 4 10 (1 ∷ 2 ∷ [])
     ∷ refused 10
     ∷ refused 9
     ∷ released

@@ -1,4 +1,5 @@
 pub mod Worked
 pub mod Rows
+pub mod Numbers
 pub mod Areas
 pub mod ClassCases

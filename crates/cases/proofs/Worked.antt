@@ -25,37 +25,30 @@ use Rattle.search.specs.Result.{outcome}
 use Rattle.area.specs.Station.{table_in, circuit_of, station}
 use Rattle.area.specs.Books.{books, net}
 use Rattle.area.specs.Load.{load_answer}
-use Rattle.rules.specs.Replies.{PathReply}
 use Rattle.rules.specs.Calls.{quote, admission}
 use Rattle.rules.specs.Meaning.{net_for}
-use Rattle.cases.specs.Document01.{net_a, net_b, AreasLoaded, m2, m3, m11, Asked, quoting, admitting, area_in, Case, cases, Holds, CaseHolds, Margins}
+use Rattle.cases.specs.Document01.{net_a, net_b, AreasLoaded, m2, m3, m11, area_in, Case, cases, Holds, CaseHolds, Margins}
+use Rattle.cases.specs.Replied.{replied, replied_to}
+use Rattle.cases.specs.declared.Asked.{Asked}
+use Rattle.cases.specs.declared.Asked.TheVariants.{Quote, Admission}
 use Rattle.rules.proofs.Meaning.{quote_means, admission_means}
 
 -- ---- the cases
--- what the calls' definitions reply, with enough work memory and path buffer
-abbrev pub replied : List ℕ → Asked → PathReply
-replied w (quoting r) = quote w work_words path_words r
-replied w (admitting c r) = admission w work_words path_words c r
-
--- and on the area that a case stands on
-abbrev pub replied_to : Case → PathReply
-replied_to c = replied (area_in c.stands) c.asked
-
 -- the replies of all cases, computed
-pub replies : map replied_to cases ≡ map (λ (c : Case). c.reply) cases
+pub replies : map (λ (c : Case). replied_to c.row) cases ≡ map (λ (c : Case). c.reply) cases
 unfolding cases area_in quote admission table_in circuit_of outcome search tried solve solve_in answer_in path_in ebf rounds round column offered relaxed improved initialised filled cell cells traced step_back place_back noted follow distance layer spread problem_one problem_two scaled iter first
 replies = refl
 
 -- a computed reply is what the call means
 replied_holds : (w : List ℕ) (q : Asked) → Holds w q (replied w q)
-replied_holds w (quoting r) = quote_means w work_words path_words r
-replied_holds w (admitting c r) = admission_means w work_words path_words r c
+replied_holds w (Quote r) = quote_means w work_words path_words r
+replied_holds w (Admission c r) = admission_means w work_words path_words r c
 
 -- one equation of two lists, as a statement of each element
-each : (l : List Case) → map replied_to l ≡ map (λ (c : Case). c.reply) l → All CaseHolds l
+each : (l : List Case) → map (λ (c : Case). replied_to c.row) l ≡ map (λ (c : Case). c.reply) l → All CaseHolds l
 each [] e = tt
 each (c ∷ l) e = (
-  subst (Holds (area_in c.stands) c.asked) (head-eq_of_cons-eq e) (replied_holds (area_in c.stands) c.asked),
+  subst (Holds (area_in c.row.stands) c.row.asked) (head-eq_of_cons-eq e) (replied_holds (area_in c.row.stands) c.row.asked),
   each l (tail-eq_of_cons-eq e),
 )
 

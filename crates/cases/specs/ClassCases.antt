@@ -2,11 +2,9 @@
 -- what the answers mean, with no algorithm in it.
 -- Assumes nothing.
 use Rattle.std.specs.Prelude.{ℕ, zero, suc, List, [], ◌∷◌, ◌++◌, replicate}
-use Rattle.rules.specs.declared.CheckAnswer.{CheckAnswer}
-use Rattle.rules.specs.declared.CheckAnswer.TheVariants as check
-use Rattle.rules.specs.declared.ClassAnswer.{ClassAnswer}
-use Rattle.rules.specs.declared.ClassAnswer.TheVariants as class
-use Rattle.rules.specs.ClassTable.{asks}
+use Rattle.network.specs.declared.Terms.{Terms}
+use Rattle.area.specs.Refusals.{Reply, refuses, grants}
+use Rattle.network.specs.Reduce.{asks}
 use Rattle.rules.specs.Classes.{CheckMeans, ClassMeans}
 use Rattle.rules.specs.SampleClasses.{sample}
 
@@ -27,16 +25,16 @@ cards (suc k) = card ++ cards k
 pub record ClassCase : Type 0 where
   pub words : List ℕ
   pub class : ℕ
-  pub check : CheckAnswer
-  pub answer : ClassAnswer
+  pub check : Reply (Unit {0})
+  pub answer : Reply Terms
 
 -- a table that is refused with this number, whatever the class
 abbrev refused : List ℕ → ℕ → ℕ → ClassCase
-refused words k j = record { words = words; class = k; check = check.Refused j; answer = class.Refused j }
+refused words k j = record { words = words; class = k; check = refuses j; answer = refuses j }
 
 -- a table that is accepted
-abbrev accepted : List ℕ → ℕ → ClassAnswer → ClassCase
-accepted words k a = record { words = words; class = k; check = check.Accepted; answer = a }
+abbrev accepted : List ℕ → ℕ → Reply Terms → ClassCase
+accepted words k a = record { words = words; class = k; check = (grants tt); answer = a }
 
 abbrev pub class_cases : List ClassCase
 class_cases =
@@ -48,13 +46,13 @@ class_cases =
     ∷ refused (replicate 257 1) 0 20
     ∷ refused (cards 65) 0 20
     -- 1 row and 64 rows; 16: the class is not below the row count
-    ∷ accepted card 0 (class.Row (asks 1 400 60 8))
-    ∷ accepted card 1 (class.Refused 16)
-    ∷ accepted (cards 64) 63 (class.Row (asks 1 400 60 8))
-    ∷ accepted (cards 64) 64 (class.Refused 16)
-    ∷ accepted card 4294967295 (class.Refused 16)
+    ∷ accepted card 0 (grants (asks 1 400 60 8))
+    ∷ accepted card 1 (refuses 16)
+    ∷ accepted (cards 64) 63 (grants (asks 1 400 60 8))
+    ∷ accepted (cards 64) 64 (refuses 16)
+    ∷ accepted card 4294967295 (refuses 16)
     -- the ends of the ranges
-    ∷ accepted (row 1 1 1 1 ++ row 65535 31000000 31000000 8) 1 (class.Row (asks 65535 31000000 31000000 8))
+    ∷ accepted (row 1 1 1 1 ++ row 65535 31000000 31000000 8) 1 (grants (asks 65535 31000000 31000000 8))
     -- 21: a number past either end, in whatever row the class is not
     ∷ refused (card ++ row 0 400 60 8) 0 21
     ∷ refused (card ++ row 65536 400 60 8) 0 21
@@ -68,8 +66,8 @@ class_cases =
     ∷ refused (replicate 6 0) 9 20
     ∷ refused (row 1 400 60 9) 9 21
     -- the sample table: its last row, and the class behind it
-    ∷ accepted sample 5 (class.Row (asks 16 3000 600 2))
-    ∷ accepted sample 6 (class.Refused 16)
+    ∷ accepted sample 5 (grants (asks 16 3000 600 2))
+    ∷ accepted sample 6 (refuses 16)
     ∷ []
 
 abbrev pub ClassCaseHolds : ClassCase → Type 0

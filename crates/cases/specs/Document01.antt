@@ -1,22 +1,27 @@
 -- Document 01's worked cases M1 to M11: the areas, the calls, and the replies that it gives for them. What a case says
--- is what the reply means, by specs/Meaning.antt of `rules`, with no algorithm in it. Each case is also a row of numbers,
--- so that the table of the program `worked_cases`, which makes the calls, is held to this list.
+-- is what the reply means, by specs/Meaning.antt of `rules`, with no algorithm in it. A case without its reply is a row, of
+-- a type of the code, so that the table of the program `worked_cases`, which makes the calls, is held to this list.
 -- Assumes nothing.
-use Rattle.std.specs.Prelude.{ℕ, zero, suc, ◌+◌, ◌*◌, ◌≡◌, List, [], ◌∷◌, map, length, get_or, replicate}
+use Rattle.std.specs.Prelude.{ℕ, ◌+◌, ◌*◌, ◌≡◌, List, [], ◌∷◌, map, length, get_or, replicate}
 use Rattle.network.specs.Limits.{path_words, work_words}
 use Rattle.network.specs.Net.{sum}
 use Rattle.network.specs.Scale.{Overqualified}
 use Rattle.network.specs.Problem.{Distance}
 use Rattle.network.specs.Lists.{All}
 use Rattle.network.specs.declared.Request.{Request}
+use Rattle.network.specs.declared.answer.Reduction.TheVariants.{One, Two}
 use Rattle.network.specs.Reduce.{delay_bound, cost_bound, asking}
 use Rattle.area.specs.Layout.{area_words}
-use Rattle.area.specs.declared.Loading.TheVariants.{Loaded}
 use Rattle.area.specs.Load.{load_answer, loaded}
-use Rattle.area.specs.Refusals.{refuses}
+use Rattle.area.specs.Refusals.{refuses, grants}
 use Rattle.rules.specs.Replies.{PathReply, granting}
 use Rattle.rules.specs.Calls.{booked}
 use Rattle.rules.specs.Meaning.{net_for, Quoted, Admitted}
+use Rattle.cases.specs.declared.Ground.{Ground}
+use Rattle.cases.specs.declared.Ground.TheVariants.{OnA, AfterM8, OnNone, OnB}
+use Rattle.cases.specs.declared.Asked.{Asked}
+use Rattle.cases.specs.declared.Asked.TheVariants.{Quote, Admission}
+use Rattle.cases.specs.declared.Row.{Row}
 
 -- ---- the areas
 -- a link's five words: from, to, delay, cost, capacity
@@ -60,7 +65,7 @@ bare = area []
 
 -- Load accepts each of the three
 abbrev pub AreasLoaded : Type 0
-AreasLoaded = All (λ links. load_answer blank 4 links ≡ Loaded) (links_a ∷ links_b ∷ [] ∷ [])
+AreasLoaded = All (λ links. load_answer blank 4 links ≡ grants tt) (links_a ∷ links_b ∷ [] ∷ [])
 
 -- ---- the calls
 -- from 0 to 3: the units, the bounds of delay and cost, the coefficient
@@ -83,132 +88,103 @@ m8_circuit = 1
 abbrev pub m11 : Request
 m11 = asks 1 2 8 4
 
-pub data Asked : Type 0 where
-  quoting : Request → Asked
-  admitting : (number : ℕ) → Request → Asked
-
 -- the path of net A by three links
 abbrev pub three : List ℕ
 three = 0 ∷ 1 ∷ 2 ∷ []
 
 -- the reply that document 01 gives most often
 abbrev pub by_three : PathReply
-by_three = granting 1 6 15 three
+by_three = granting One 6 15 three
 
 -- net A after M8's admission, with its reply
 unfoldable pub net_a4 : List ℕ
 unfolding net_a booked
-net_a4 = booked net_a m8_circuit m8.units by_three
+net_a4 = booked net_a m8_circuit m8.terms.units by_three
 
 -- ---- the cases
--- the areas that they stand on, by a number: net A, net A after M8's admission, no links, net B
-abbrev pub on_a : ℕ
-on_a = 0
-
-abbrev pub after_m8 : ℕ
-after_m8 = 1
-
-abbrev pub on_none : ℕ
-on_none = 2
-
-abbrev pub on_b : ℕ
-on_b = 3
-
-unfoldable pub area_in : ℕ → List ℕ
+-- the area that a case stands on
+unfoldable pub area_in : Ground → List ℕ
 unfolding net_a net_a4 bare net_b
-area_in zero = net_a
-area_in (suc zero) = net_a4
-area_in (suc (suc zero)) = bare
-area_in (suc (suc (suc k))) = net_b
+area_in OnA = net_a
+area_in AfterM8 = net_a4
+area_in OnNone = bare
+area_in OnB = net_b
 
--- a case's number in document 01, its area, the call and the reply
+-- a case's number in document 01, its area and the call; and the reply
 pub record Case : Type 0 where
-  pub number : ℕ
-  pub stands : ℕ
-  pub asked : Asked
+  pub row : Row
   pub reply : PathReply
 
-abbrev pub case : ℕ → ℕ → Asked → PathReply → Case
-case m k q a = record { number = m; stands = k; asked = q; reply = a }
+abbrev pub case : ℕ → Ground → Asked → PathReply → Case
+case m k q a = record { row = record { number = m; stands = k; asked = q }; reply = a }
 
 unfoldable pub cases : List Case
 cases =
-    case 1 on_a (quoting (asks 1 8 20 5)) (refuses 10)
-    ∷ case 2 on_a (quoting m2) by_three
-    ∷ case 3 on_a (quoting m3) by_three
-    ∷ case 4 on_a (quoting (asks 1 8 15 8)) (granting 2 6 15 three)
-    ∷ case 5 on_a (quoting (asks 1 8 14 8)) (refuses 10)
-    ∷ case 6 on_a (quoting (asks 1 9 20 8)) by_three
-    ∷ case 7 on_a (quoting (asks 10 8 20 8)) by_three
-    ∷ case 7 on_a (quoting (asks 11 8 20 8)) (refuses 9)
-    ∷ case 8 on_a (admitting m8_circuit m8) by_three
-    ∷ case 8 after_m8 (quoting (asks 6 8 20 8)) by_three
-    ∷ case 8 after_m8 (quoting (asks 7 8 20 8)) (refuses 10)
-    ∷ case 8 after_m8 (quoting (asks 7 9 20 8)) (granting 1 9 1 (3 ∷ []))
-    ∷ case 9 on_a (quoting (asking 0 0 1 8 20 8)) (refuses 8)
-    ∷ case 10 on_none (quoting (asks 1 8 20 8)) (refuses 9)
-    ∷ case 11 on_b (quoting m11) (granting 1 2 2 (3 ∷ 2 ∷ []))
+    case 1 OnA (Quote (asks 1 8 20 5)) (refuses 10)
+    ∷ case 2 OnA (Quote m2) by_three
+    ∷ case 3 OnA (Quote m3) by_three
+    ∷ case 4 OnA (Quote (asks 1 8 15 8)) (granting Two 6 15 three)
+    ∷ case 5 OnA (Quote (asks 1 8 14 8)) (refuses 10)
+    ∷ case 6 OnA (Quote (asks 1 9 20 8)) by_three
+    ∷ case 7 OnA (Quote (asks 10 8 20 8)) by_three
+    ∷ case 7 OnA (Quote (asks 11 8 20 8)) (refuses 9)
+    ∷ case 8 OnA (Admission m8_circuit m8) by_three
+    ∷ case 8 AfterM8 (Quote (asks 6 8 20 8)) by_three
+    ∷ case 8 AfterM8 (Quote (asks 7 8 20 8)) (refuses 10)
+    ∷ case 8 AfterM8 (Quote (asks 7 9 20 8)) (granting One 9 1 (3 ∷ []))
+    ∷ case 9 OnA (Quote (asking 0 0 1 8 20 8)) (refuses 8)
+    ∷ case 10 OnNone (Quote (asks 1 8 20 8)) (refuses 9)
+    ∷ case 11 OnB (Quote m11) (granting One 2 2 (3 ∷ 2 ∷ []))
     ∷ []
 
 -- with enough work memory and path buffer, the reply is one that the call may give
 abbrev pub Holds : List ℕ → Asked → PathReply → Type 0
-Holds w (quoting r) a = Quoted w work_words path_words r a
-Holds w (admitting c r) a = Admitted w work_words path_words c r a
+Holds w (Quote r) a = Quoted w work_words path_words r a
+Holds w (Admission c r) a = Admitted w work_words path_words c r a
 
 abbrev pub CaseHolds : Case → Type 0
-CaseHolds c = Holds (area_in c.stands) c.asked c.reply
+CaseHolds c = Holds (area_in c.row.stands) c.row.asked c.reply
 
 -- what stands for a case past the last, and is none of document 01's
 abbrev pub no_case : Case
-no_case = case 0 on_none (quoting (asking 0 0 0 0 0 0)) (refuses 0)
+no_case = case 0 OnNone (Quote (asking 0 0 0 0 0 0)) (refuses 0)
 
 -- case i of the list, counted from 0
 unfoldable pub case_at : ℕ → Case
 unfolding cases
 case_at i = get_or cases i no_case
 
--- ---- the cases as rows of numbers
--- what a call asks for
-abbrev pub request_in : Asked → Request
-request_in (quoting r) = r
-request_in (admitting c r) = r
+-- ---- the cases as rows
+abbrev pub rows : List Row
+rows = map (λ (c : Case). c.row) cases
 
--- 0 for a quote, 1 for an admission
-abbrev pub kind_in : Asked → ℕ
-kind_in (quoting r) = 0
-kind_in (admitting c r) = 1
+-- what a row's numbers are: of its area and of its call, with an admission's circuit number, and of the request in document
+-- 01's order: s, t, b, D, C, coefficient
+abbrev pub ground_number : Ground → ℕ
+ground_number OnA = 0
+ground_number AfterM8 = 1
+ground_number OnNone = 2
+ground_number OnB = 3
 
--- the circuit number of an admission; a quote has none
-abbrev pub circuit_in : Asked → ℕ
-circuit_in (quoting r) = 0
-circuit_in (admitting c r) = c
+abbrev pub request_numbers : Request → List ℕ
+request_numbers r = r.source ∷ r.target ∷ r.terms.units ∷ delay_bound r ∷ cost_bound r ∷ r.terms.coefficient ∷ []
 
--- number, area, kind, circuit number, and the request in document 01's order: s, t, b, D, C, coefficient
-abbrev pub row_of : Case → List ℕ
-row_of c =
-    let r = request_in c.asked in
-    c.number ∷ c.stands ∷ kind_in c.asked ∷ circuit_in c.asked
-    ∷ r.source ∷ r.target ∷ r.units ∷ delay_bound r ∷ cost_bound r ∷ r.coefficient ∷ []
-
-unfoldable pub rows : List (List ℕ)
-unfolding cases
-rows = map row_of cases
-
--- what a row asks for
-abbrev pub request_of : List ℕ → Request
-request_of r = asking (get_or r 4 0) (get_or r 5 0) (get_or r 6 0) (get_or r 7 0) (get_or r 8 0) (get_or r 9 0)
+-- 0 for a quote, 1 for an admission; a quote has no circuit number
+abbrev pub asked_numbers : Asked → List ℕ
+asked_numbers (Quote r) = 0 ∷ 0 ∷ request_numbers r
+asked_numbers (Admission c r) = 1 ∷ c ∷ request_numbers r
 
 -- ---- the figures that document 01 gives beside the replies
 -- Theorem 2's condition for a request on net A and the path by three links, at distance 1
 abbrev pub Condition : Request → Type 0
-Condition r = Overqualified (r.coefficient * 1) (cost_bound r) (length three) (sum (net_for net_a r).cost three)
+Condition r = Overqualified (r.terms.coefficient * 1) (cost_bound r) (length three) (sum (net_for net_a r).cost three)
 
 -- the distance, the path's cost, and the two sides of the condition
 pub record Sides (r : Request) (left right : ℕ) : Type 0 where
   pub distance : Distance (net_for net_a r) 0 3 1
   pub cost : sum (net_for net_a r).cost three ≡ 15
-  pub left_side : sum (net_for net_a r).cost three * (r.coefficient * 1) + length three * cost_bound r ≡ left
-  pub right_side : (r.coefficient * 1 + 1) * cost_bound r ≡ right
+  pub left_side : sum (net_for net_a r).cost three * (r.terms.coefficient * 1) + length three * cost_bound r ≡ left
+  pub right_side : (r.terms.coefficient * 1 + 1) * cost_bound r ≡ right
 
 pub record Margins : Type 0 where
   -- M2 is granted though 150 is over 140
@@ -219,4 +195,4 @@ pub record Margins : Type 0 where
   pub m3_met : Condition m3
   -- M11's x is 8
   pub m11_distance : Distance (net_for net_b m11) 0 3 2
-  pub m11_x : m11.coefficient * 2 ≡ 8
+  pub m11_x : m11.terms.coefficient * 2 ≡ 8

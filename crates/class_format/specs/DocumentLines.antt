@@ -1,6 +1,7 @@
 -- Three of document 01's lines for net A with the replies that they tell: a longer path, a shorter one and a refusal.
 -- Assumes nothing.
 use Rattle.std.specs.Prelude.{ℕ, List, [], ◌∷◌}
+use Rattle.network.specs.declared.answer.Reduction.TheVariants.{One}
 use Rattle.area.specs.Refusals.{refuses}
 use Rattle.rules.specs.Replies.{PathReply, granting}
 use Rattle.class_format.specs.NetA.{class_zero, class_three, class_five}
@@ -13,7 +14,7 @@ pub record Sample : Type 0 where
 
 abbrev pub samples : List Sample
 samples =
-    record { class = 0; reply = granting 1 6 15 (0 ∷ 1 ∷ 2 ∷ []); bytes = class_zero }
-    ∷ record { class = 3; reply = granting 1 9 1 (3 ∷ []); bytes = class_three }
+    record { class = 0; reply = granting One 6 15 (0 ∷ 1 ∷ 2 ∷ []); bytes = class_zero }
+    ∷ record { class = 3; reply = granting One 9 1 (3 ∷ []); bytes = class_three }
     ∷ record { class = 5; reply = refuses 9; bytes = class_five }
     ∷ []

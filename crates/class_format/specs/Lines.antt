@@ -3,10 +3,9 @@
 use Rattle.std.specs.Prelude.{ℕ, zero, suc, ◌-◌, List, [], ◌∷◌, ◌++◌}
 use Rattle.network.specs.Limits.{path_words, work_words}
 use Rattle.network.specs.declared.Request.{Request}
-use Rattle.area.specs.Refusals.{refuses, grants}
-use Rattle.rules.specs.declared.Service.{Service}
-use Rattle.rules.specs.declared.ClassAnswer.{ClassAnswer}
-use Rattle.rules.specs.declared.ClassAnswer.TheVariants.{Refused, Row}
+use Rattle.network.specs.Reduce.{problem_number}
+use Rattle.area.specs.Refusals.{refuses, grants, Reply}
+use Rattle.network.specs.declared.Terms.{Terms}
 use Rattle.rules.specs.ClassTable.{rows_in, request_between}
 use Rattle.rules.specs.Classes.{class_answer}
 use Rattle.rules.specs.Replies.{PathReply}
@@ -23,22 +22,22 @@ line k ns = decimal k ++ fields ns ++ 10 ∷ []
 unfoldable pub reply_line : ℕ → PathReply → List ℕ
 unfolding line
 reply_line k (refuses number) = line k (0 ∷ number ∷ [])
-reply_line k (grants g) = line k (g.problem ∷ g.delay ∷ g.cost ∷ g.path)
+reply_line k (grants g) = line k (problem_number g.problem ∷ g.delay ∷ g.cost ∷ g.path)
 
 -- what a class asks for, from node 0 to n - 1
-unfoldable pub request_of : ℕ → Service → Request
+unfoldable pub request_of : ℕ → Terms → Request
 request_of n s = request_between 0 (n - 1) s
 
 -- the line of class k with the row s, quoted on an area of n nodes
-unfoldable pub quote_line : List ℕ → ℕ → ℕ → Service → List ℕ
+unfoldable pub quote_line : List ℕ → ℕ → ℕ → Terms → List ℕ
 unfolding reply_line quote request_of
 quote_line area n k s = reply_line k (quote area work_words path_words (request_of n s))
 
 -- the line of class k by what the class call answers
-unfoldable pub answered_line : List ℕ → ℕ → ℕ → ClassAnswer → List ℕ
+unfoldable pub answered_line : List ℕ → ℕ → ℕ → Reply Terms → List ℕ
 unfolding reply_line quote_line
-answered_line area n k (Refused number) = reply_line k (refuses number)
-answered_line area n k (Row s) = quote_line area n k s
+answered_line area n k (refuses number) = reply_line k (refuses number)
+answered_line area n k (grants s) = quote_line area n k s
 
 -- the line of class k of a class table
 unfoldable pub class_line : List ℕ → List ℕ → ℕ → ℕ → List ℕ

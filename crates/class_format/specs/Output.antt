@@ -1,12 +1,10 @@
 -- What the class program prints for a link file, as bytes.
 -- Assumes nothing.
 use Rattle.std.specs.Prelude.{ℕ, cond, List, [], ◌∷◌, ◌++◌, leb, length, replicate}
+use Rattle.area.specs.Refusals.{Reply, refuses, grants}
 use Rattle.area.specs.Layout.{area_words, table_words}
-use Rattle.area.specs.declared.Loading.{Loading}
-use Rattle.area.specs.declared.Loading.TheVariants as loading
 use Rattle.area.specs.Load.{load_answer, area_loaded}
-use Rattle.link_format.specs.declared.FileAnswer.{FileAnswer}
-use Rattle.link_format.specs.declared.FileAnswer.TheVariants as file
+use Rattle.link_format.specs.declared.Size.{Size}
 use Rattle.link_format.specs.Reading.{read_answer, record_words}
 use Rattle.rules.specs.SampleClasses.{sample}
 use Rattle.text_format.specs.Fields.{fields}
@@ -32,20 +30,20 @@ unfoldable pub blank : List ℕ
 blank = replicate area_words 0
 
 -- a refused load prints only that; else a line for each class of the sample table, quoted on the area that was loaded
-unfoldable pub loading_output : List ℕ → ℕ → Loading → List ℕ
+unfoldable pub loading_output : List ℕ → ℕ → Reply (Unit {0}) → List ℕ
 unfolding refusal lines
-loading_output area n (loading.Refused number) = refusal load_word number
-loading_output area n loading.Loaded = lines sample area n
+loading_output area n (refuses number) = refusal load_word number
+loading_output area n (grants tt) = lines sample area n
 
 unfoldable pub load_output : ℕ → List ℕ → List ℕ
 unfolding loading_output area_loaded load_answer blank
 load_output n links = loading_output (area_loaded blank n links) n (load_answer blank n links)
 
 -- a refused file prints only that; else its links are loaded
-unfoldable pub reading_output : List ℕ → FileAnswer → List ℕ
+unfoldable pub reading_output : List ℕ → Reply Size → List ℕ
 unfolding refusal load_output
-reading_output links (file.Refused number) = refusal file_word number
-reading_output links (file.Table s) = load_output s.nodes links
+reading_output links (refuses number) = refusal file_word number
+reading_output links (grants s) = load_output s.nodes links
 
 -- the program's table has the words of a full one
 unfoldable pub file_output : List ℕ → List ℕ

@@ -7,13 +7,11 @@ use std::io::Read;
 fn read_some(input: &mut impl Read, buffer: &mut [u8]) -> usize
     ensures { IsPrefixLen result buffer.new }
 {
-    match input.read(buffer) {
-        Ok(n) => n,
-        Err(_) => 0,
-    }
+    input.read(buffer).unwrap_or(0)
 }
 
 // Reads until the buffer is full, the input ends or a read fails, and answers how many bytes it put at the start of the buffer.
+// The loop stands here since std's own say nothing of the buffer after a failure.
 pub(crate) fn read_full(input: &mut impl Read, buffer: &mut [u8]) -> usize
     ensures { IsPrefixLen result buffer.new }
 {

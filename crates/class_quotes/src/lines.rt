@@ -1,117 +1,79 @@
-// The lines of the class program, one for each class of a class table, as bytes. A line has at most 34 fields behind the class,
-// so at most 385 bytes: the functions require room for a line, and `put_lines` for each row's. Only `class_quotes` calls them.
-ghost use Rattle.std.specs.Prelude.{◌≡◌, [], ◌∷◌, ◌+◌, ◌*◌, ◌≤◌, length};
-ghost use Rattle.std.proofs.lemmas.List.Edits.{sets};
-ghost use Rattle.network.specs.Limits.{path_words};
+// The lines of the class program, one for each class of a class table. A line is the class, and what it is answered as
+// `answer_lines` puts it: at most 10 and 375 bytes. Only `report` asks for them.
+ghost use Rattle.std.specs.Prelude.{◌≡◌, ◌+◌, ◌*◌, ◌≤◌, ◌++◌};
+ghost use Rattle.arrayvec.specs.ArrayVec.{array_vec_len};
+ghost use Rattle.area.specs.Refusals.{numbered};
 ghost use Rattle.rules.specs.ClassTable.{rows_in};
-ghost use Rattle.class_format.specs.Lines.{line, request_of, quote_line, class_line, lines};
+ghost use Rattle.text_format.specs.Decimal.{decimal};
+ghost use Rattle.answer_lines.specs.Answers.{routed_text};
+ghost use Rattle.class_format.specs.Lines.{request_of, class_line, lines};
 
+use area::Refusal;
+use arrayvec::ArrayVec;
 use booking::quote::quote;
 use classes::table::ROW_WORDS;
-use links::link;
 use network::limits::{PATH_WORDS, WORK_WORDS};
-use network::{Grant, Request};
-use rules::{RequestAnswer, Service};
+use network::{Grant, Request, Terms};
 
-// Class, 0, number.
-fn put_refused(text: &mut [u8; 4096], at: usize, class: u32, number: u32) -> usize
-    requires { at + 385 ≤ 4096 }
-    ensures end { (result ≡ at + length (line class (0 ∷ number ∷ []))) × (result ≤ at + 385) × (result ≤ length text.new) }
-    ensures text { text.new ≡ sets text.old at (line class (0 ∷ number ∷ [])) }
-{
-    let mut end = text::put_number(text, at, class);
-    end = text::put_field(text, end, 0);
-    end = text::put_field(text, end, number);
-    text::put(text, end, b"\n")
-}
-
-// Class, problem, delay, cost, links.
-fn put_granted(text: &mut [u8; 4096], at: usize, class: u32, g: Grant, path: &[u32]) -> usize
-    requires { (at + 385 ≤ 4096) × (length path.now ≤ path_words) }
-    ensures end { (result ≡ at + length (line class (g.problem ∷ g.delay ∷ g.cost ∷ path.now))) × (result ≤ at + 385) × (result ≤ length text.new) }
-    ensures text { text.new ≡ sets text.old at (line class (g.problem ∷ g.delay ∷ g.cost ∷ path.now)) }
-{
-    let mut end = text::put_number(text, at, class);
-    end = text::put_field(text, end, g.problem);
-    end = text::put_field(text, end, g.delay);
-    end = text::put_field(text, end, g.cost);
-    end = text::put_fields(text, end, path);
-    text::put(text, end, b"\n")
-}
-
-// What a class asks for, from node 0 to node n - 1. A loaded area has at least two nodes.
-fn request(n: u32, s: Service) -> Request
-    requires { 1 ≤ n }
-    ensures { result ≡ request_of n s }
+// What a class asks for, from node 0 to the last node.
+#[tactic(auto, unfolding(class_format::specs::Lines::request_of))]
+fn request(last: u32, terms: Terms) -> Request
+    ensures { result ≡ request_of (last + 1) terms }
 {
     Request {
         source: 0,
-        target: n - 1,
-        units: s.units,
-        delay_bound: s.delay_bound,
-        cost_bound: s.cost_bound,
-        coefficient: s.coefficient,
+        target: last,
+        terms,
     }
 }
 
-// The line of a class whose row is `s`: it is quoted on the area.
-fn put_quote(
-    text: &mut [u8; 4096],
-    at: usize,
-    area: &[u32],
-    work: &mut [u32; WORK_WORDS],
-    n: u32,
-    class: u32,
-    s: Service,
-) -> usize
-    requires { (at + 385 ≤ 4096) × (1 ≤ n) }
-    ensures end { (result ≡ at + length (quote_line area.now n class s)) × (result ≤ at + 385) × (result ≤ length text.new) }
-    ensures text { text.new ≡ sets text.old at (quote_line area.now n class s) }
-{
-    let mut path = [0u32; PATH_WORDS];
-    let a = quote(area, work, &mut path, request(n, s));
-    match a {
-        RequestAnswer::Refused(number) => put_refused(text, at, class, number),
-        RequestAnswer::Granted(g) => {
-            let l = link::wide(g.links);
-            put_granted(text, at, class, g, &path[..l])
+// A class table, the area on which its classes are quoted, and that area's last node.
+#[derive(Clone, Copy)]
+pub(crate) struct Classes<'a> {
+    pub rows: &'a [u32],
+    pub area: &'a [u32],
+    pub last: u32,
+}
+
+impl Classes<'_> {
+    // What class `k` is answered: it is refused as the class call refuses it, or its row is quoted on the area.
+    fn answer(
+        &self,
+        work: &mut [u32; WORK_WORDS],
+        path: &mut [u32; PATH_WORDS],
+        k: u32,
+    ) -> Result<Grant, Refusal>
+        ensures { class_line self.now.rows.now self.now.area.now (self.now.last + 1) k ≡ decimal k ++ routed_text (numbered result) path.new }
+    {
+        let terms = classes::class(self.rows, k)?;
+        quote(self.area, work, path, request(self.last, terms))
+    }
+
+    // The line of class `k`.
+    fn put_class(&self, text: &mut ArrayVec<u8, 4096>, work: &mut [u32; WORK_WORDS], k: u32)
+        requires { array_vec_len text.old + 385 ≤ 4096 }
+        ensures text { text.new.items ≡ text.old.items ++ class_line self.now.rows.now self.now.area.now (self.now.last + 1) k }
+        ensures most { array_vec_len text.new ≤ array_vec_len text.old + 385 }
+    {
+        let mut path = [0u32; PATH_WORDS];
+        let said = self.answer(work, &mut path, k);
+        text::put_number(text, k);
+        answer_lines::put_routed(text, said, &path);
+    }
+
+    // The lines of all classes. The caller has loaded the area, and has a table whose lines the text has room for. A class goes by
+    // its number, with which its line begins.
+    #[tactic(auto, using(class_format::proofs::LineBytes::all_lines))]
+    pub(crate) fn lines(&self) -> ArrayVec<u8, 4096>
+        requires { 385 * rows_in self.now.rows.now ≤ 4096 }
+        ensures { result.items ≡ lines self.now.rows.now self.now.area.now (self.now.last + 1) }
+    {
+        let mut work = [0u32; WORK_WORDS];
+        let mut text = ArrayVec::new();
+        let count = self.rows.len() / ROW_WORDS;
+        for k in 0..count {
+            self.put_class(&mut text, &mut work, k as u32);
         }
+        text
     }
-}
-
-// The line of class `k` of the table `rows`.
-fn put_class(
-    text: &mut [u8; 4096],
-    at: usize,
-    area: &[u32],
-    work: &mut [u32; WORK_WORDS],
-    n: u32,
-    rows: &[u32],
-    k: u32,
-) -> usize
-    requires { (at + 385 ≤ 4096) × (1 ≤ n) }
-    ensures end { (result ≡ at + length (class_line rows.now area.now n k)) × (result ≤ at + 385) × (result ≤ length text.new) }
-    ensures text { text.new ≡ sets text.old at (class_line rows.now area.now n k) }
-{
-    let asked = classes::class(rows, k);
-    match asked {
-        rules::ClassAnswer::Refused(j) => put_refused(text, at, k, j),
-        rules::ClassAnswer::Row(s) => put_quote(text, at, area, work, n, k, s),
-    }
-}
-
-// The lines of all classes of the table `rows`. The caller has loaded the area with n nodes, which are at least two, and lends
-// a table whose lines the text has room for.
-pub fn put_lines(text: &mut [u8; 4096], area: &[u32], n: u32, rows: &[u32]) -> usize
-    requires { (1 ≤ n) × (385 * rows_in rows.now ≤ 4096) }
-    ensures end { (result ≡ length (lines rows.now area.now n)) × (result ≤ length text.new) }
-    ensures text { text.new ≡ sets text.old 0 (lines rows.now area.now n) }
-{
-    let mut work = [0u32; WORK_WORDS];
-    let mut at = 0;
-    let count = rows.len() / ROW_WORDS;
-    for k in 0..count {
-        at = put_class(text, at, area, &mut work, n, rows, k as u32);
-    }
-    at
 }

@@ -1,6 +1,6 @@
 // The class program of document 01: reads a link file on standard input, loads a fresh area and quotes each class from
 // node 0 to n - 1. It prints a line for each class, or that the file or the load was refused.
-// All of it is put into bytes by `report`, with the lines of the classes from `lines`; here it is only read, by `input`, and
+// All of it is one text by `report`, with the lines of the classes from `lines`; here it is only read, by `input`, and
 // written.
 #![tactic(auto)]
 
@@ -13,7 +13,5 @@ mod report;
 fn main(rt: HostRuntime) {
     let mut file = [0u8; 65537];
     let n = input::read_full(&mut rt.stdin(), &mut file);
-    let mut text = [0u8; 4096];
-    let k = report::report(&file[..n], &mut text);
-    let _ = rt.write_all(&text[..k]);
+    let _ = rt.write_all(report::report(&file[..n]).as_slice());
 }

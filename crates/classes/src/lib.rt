@@ -3,48 +3,41 @@
 #![tactic(auto)]
 
 ghost use Rattle.std.specs.Prelude.{◌≡◌};
+ghost use Rattle.area.specs.Refusals.{numbered};
 ghost use Rattle.rules.specs.Classes.{check_answer, CheckMeans, class_answer, ClassMeans};
 
 use crate::table::{CLASS_WORDS, ROW_WORDS};
-use links::link;
-use rules::{CheckAnswer, ClassAnswer};
+use area::Refusal;
+use network::Terms;
 
 pub mod sample;
 pub mod table;
 
 // 20 and 21 in this order; else the table is accepted.
-pub fn check(rows: &[u32]) -> CheckAnswer
-    ensures answer { result ≡ check_answer rows.now }
-    ensures means { CheckMeans rows.now result }
+#[tactic(auto, unfolding(rules::specs::Classes::check_answer))]
+pub fn check(rows: &[u32]) -> Result<(), Refusal>
+    ensures answer { numbered result ≡ check_answer rows.now }
+    ensures means { CheckMeans rows.now (numbered result) }
 {
-    if rows.len() == 0 {
-        return CheckAnswer::Refused(20);
-    }
-    if CLASS_WORDS < rows.len() {
-        return CheckAnswer::Refused(20);
-    }
-    if rows.len() % ROW_WORDS != 0 {
-        return CheckAnswer::Refused(20);
+    if !(1..=CLASS_WORDS).contains(&rows.len()) || rows.len() % ROW_WORDS != 0 {
+        return Err(Refusal::ClassWords);
     }
     if !table::rows_fit(rows) {
-        return CheckAnswer::Refused(21);
+        return Err(Refusal::ClassRange);
     }
-    CheckAnswer::Accepted
+    Ok(())
 }
 
 // 20, 21 and 16 in this order; else the row of class `k`.
-pub fn class(rows: &[u32], k: u32) -> ClassAnswer
-    ensures answer { result ≡ class_answer rows.now k }
-    ensures means { ClassMeans rows.now k result }
+#[tactic(auto, unfolding(rules::specs::Classes::check_answer, rules::specs::Classes::class_answer))]
+pub fn class(rows: &[u32], k: u32) -> Result<Terms, Refusal>
+    ensures answer { numbered result ≡ class_answer rows.now k }
+    ensures means { ClassMeans rows.now k (numbered result) }
 {
-    match check(rows) {
-        CheckAnswer::Refused(number) => ClassAnswer::Refused(number),
-        CheckAnswer::Accepted => {
-            let i = link::wide(k);
-            if rows.len() / ROW_WORDS <= i {
-                return ClassAnswer::Refused(16);
-            }
-            ClassAnswer::Row(table::row(rows, i))
-        }
+    check(rows)?;
+    let i = k as usize;
+    if rows.len() / ROW_WORDS <= i {
+        return Err(Refusal::NoSuchClass);
     }
+    Ok(table::row(rows, i))
 }

@@ -3,6 +3,7 @@ ghost use Rattle.std.specs.Prelude.{◌≡◌};
 ghost use Rattle.rules.specs.SampleClasses.{sample};
 
 use crate::table::ROW_WORDS;
+use std::array;
 
 const SAMPLE_ROWS: usize = 6;
 
@@ -23,10 +24,5 @@ pub const SAMPLE_WORDS: usize = ROW_WORDS * SAMPLE_ROWS;
 pub fn sample() -> [u32; SAMPLE_WORDS]
     ensures { result ≡ sample }
 {
-    let mut words = [0; SAMPLE_WORDS];
-    for i in 0..SAMPLE_WORDS {
-        let row = ROWS[i / ROW_WORDS];
-        words[i] = row[i % ROW_WORDS];
-    }
-    words
+    array::from_fn(|i| ROWS[i / ROW_WORDS][i % ROW_WORDS])
 }

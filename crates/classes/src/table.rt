@@ -2,8 +2,8 @@
 ghost use Rattle.std.specs.Prelude.{◌≡◌, ◌<◌};
 ghost use Rattle.rules.specs.ClassTable.{rows_in, row_at, row_fits, rows_fit};
 
-use links::range::terms_fit;
-use rules::Service;
+use links::terms::terms_fit;
+use network::Terms;
 
 // The words of a row, the most rows, and the words of a full table: the names of `rules` `ClassTable`.
 pub const ROW_WORDS: usize = 4;
@@ -13,12 +13,12 @@ pub const MOST_ROWS: usize = 64;
 pub const CLASS_WORDS: usize = ROW_WORDS * MOST_ROWS;
 
 // Row `k`. The callers have counted the rows.
-pub(crate) fn row(rows: &[u32], k: usize) -> Service
+pub(crate) fn row(rows: &[u32], k: usize) -> Terms
     requires { k < rows_in rows.now }
     ensures { result ≡ row_at rows.now k }
 {
     let at = ROW_WORDS * k;
-    Service {
+    Terms {
         units: rows[at],
         delay_bound: rows[at + 1],
         cost_bound: rows[at + 2],
@@ -31,19 +31,13 @@ fn row_fits(rows: &[u32], k: usize) -> bool
     requires { k < rows_in rows.now }
     ensures { result ≡ row_fits (row_at rows.now k) }
 {
-    let s = row(rows, k);
-    terms_fit(s.units, s.delay_bound, s.cost_bound, s.coefficient)
+    terms_fit(row(rows, k))
 }
 
 // Whether those of every row are.
+#[tactic(auto, unfolding(rules::specs::ClassTable::rows_fit))]
 pub(crate) fn rows_fit(rows: &[u32]) -> bool
     ensures { result ≡ rows_fit rows.now }
 {
-    let count = rows.len() / ROW_WORDS;
-    for k in 0..count {
-        if !row_fits(rows, k) {
-            return false;
-        }
-    }
-    true
+    (0..rows.len() / ROW_WORDS).all(|k| row_fits(rows, k))
 }

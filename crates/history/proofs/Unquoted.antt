@@ -5,17 +5,17 @@ use Prim.Native.Nat.{ℕ, zero, suc}
 use mathlib.Core.Path.{◌≡◌, refl, sym, ap, ◌∙◌}
 use mathlib.Core.Bool.{Bool, true, false, cond}
 use mathlib.Core.List.{List, [], ◌∷◌, ◌++◌}
-use lib.Dec.{eqb}
-use lib.ListN.{get_or}
-use Rattle.network.specs.declared.Request.{Request}
 use Rattle.network.specs.Lists.{All}
 use Rattle.network.proofs.Tests.{by_bool}
-use Rattle.area.specs.declared.Loading.TheVariants.{Loaded}
+use Rattle.area.specs.Refusals.{grants}
 use Rattle.area.specs.Load.{load_answer, area_loaded}
 use Rattle.ledger.specs.Entries.{Call, quoting, admitting, releasing}
 use Rattle.ledger.specs.History.{Lending, measured, Given, answers, Struck, end, strike, keep, remaining}
 use Rattle.cases.specs.Document01.{links_a}
-use Rattle.call_list.specs.Calls.{rows, kind_of, is_quote, request_of, call_of, lent, calls_from, calls}
+use Rattle.cases.specs.declared.Asked.TheVariants.{Quote, Admission}
+use Rattle.call_list.specs.declared.Row.{Row}
+use Rattle.call_list.specs.declared.Row.TheVariants.{Asks, Releases}
+use Rattle.call_list.specs.Calls.{row_at, is_quote, lent, calls_from, calls}
 use Rattle.call_list.proofs.Runs.{struck_calls, accepted_agree}
 use Rattle.history.specs.Lines.{line_of, lines_of, unquoted_lines, rows_from, rows_made, run_text}
 
@@ -31,32 +31,24 @@ quotes_measured (quoting work path r) = refl
 quotes_measured (admitting work path c r) = refl
 quotes_measured (releasing c) = refl
 
--- a row's call is one where its kind is a quote's
-quotes_cond : (a b : Bool) (work path : List ℕ) (c : ℕ) (q : Request)
-    → quotes (cond a (quoting work path q) (cond b (releasing c) (admitting work path c q))) ≡ a
-quotes_cond true b work path c q = refl
-quotes_cond false true work path c q = refl
-quotes_cond false false work path c q = refl
-
-quotes_call : (r work path : List ℕ) → quotes (call_of r work path) ≡ is_quote (kind_of r)
-unfolding call_of
-quotes_call r work path = quotes_cond (is_quote (kind_of r)) (eqb (kind_of r) 2) work path (get_or r 1 0) (request_of r)
-
-quotes_lent : (struck : Bool) (k : ℕ) (r : List ℕ) → quotes (lent struck k r) ≡ is_quote (kind_of r)
+-- a row's call is one where the row is a quote
+quotes_lent : (struck : Bool) (k : ℕ) (r : Row) → quotes (lent struck k r) ≡ is_quote r
 unfolding lent
-quotes_lent struck k r = quotes_call r _ _
+quotes_lent struck k (Asks (Quote r) l) = refl
+quotes_lent struck k (Asks (Admission c r) l) = refl
+quotes_lent struck k (Releases c) = refl
 
 -- the second run makes none
 abbrev NoQuotes : List Lending → Type 0
 NoQuotes cs = All (λ c. quotes c ≡ false) cs
 
-none_first : (k : ℕ) (r : List ℕ) (cs : List Lending) → NoQuotes cs → NoQuotes (cond (is_quote (kind_of r)) [] (lent true k r ∷ []) ++ cs)
-none_first k r cs none = by_bool (is_quote (kind_of r)) (λ q. rw q none) (λ q. rw q (quotes_lent true k r ∙ q, none))
+none_first : (k : ℕ) (r : Row) (cs : List Lending) → NoQuotes cs → NoQuotes (cond (is_quote r) [] (lent true k r ∷ []) ++ cs)
+none_first k r cs none = by_bool (is_quote r) (λ q. rw q none) (λ q. rw q (quotes_lent true k r ∙ q, none))
 
 no_quotes : (k n : ℕ) → NoQuotes (calls_from true k n)
 unfolding calls_from
 no_quotes k zero = tt
-no_quotes k (suc n) = none_first k (get_or rows k []) _ (no_quotes (suc k) n)
+no_quotes k (suc n) = none_first k (row_at k) _ (no_quotes (suc k) n)
 
 -- ---- of the answers to calls, those to no quote
 abbrev unquoted : List Lending → List Given → List Given
@@ -93,10 +85,10 @@ unfolding rows_from lines_of unquoted_lines calls_from
 lines_unquoted k zero l = refl
 lines_unquoted k (suc n) [] = no_answers (rows_from true k (suc n))
 lines_unquoted k (suc n) (a ∷ l) =
-    rw (quotes_lent false k (get_or rows k [])) (one_more (is_quote (kind_of (get_or rows k []))) k a _ _ _ (lines_unquoted (suc k) n l))
+    rw (quotes_lent false k (row_at k)) (one_more (is_quote (row_at k)) k a _ _ _ (lines_unquoted (suc k) n l))
 
 -- ---- the second run
-pub text_again : (w v : List ℕ) → load_answer w 4 links_a ≡ Loaded → load_answer v 4 links_a ≡ Loaded
+pub text_again : (w v : List ℕ) → load_answer w 4 links_a ≡ grants tt → load_answer v 4 links_a ≡ grants tt
     → run_text true (area_loaded v 4 links_a) ≡ unquoted_lines (rows_made false) (answers (area_loaded w 4 links_a) (calls false))
 unfolding rows_made calls
 text_again w v accepted accepted' =

@@ -1,10 +1,13 @@
 -- The lines of a run, in ASCII: of each call its row's number, its name, and what it answered.
 -- Assumes nothing.
-use Rattle.std.specs.Prelude.{ℕ, zero, suc, Bool, cond, ◌&&◌, List, [], ◌∷◌, ◌++◌, eqb, get_or}
+use Rattle.std.specs.Prelude.{ℕ, zero, suc, Bool, cond, ◌&&◌, List, [], ◌∷◌, ◌++◌}
 use Rattle.text_format.specs.Decimal.{decimal}
 use Rattle.ledger.specs.History.{Given, of_request, of_release, given_to, answers, area_at_end}
-use Rattle.call_list.specs.Calls.{rows, kind_of, is_quote, lent, call_at, calls}
-use Rattle.answer_lines.specs.Answers.{answer_text, release_text}
+use Rattle.cases.specs.declared.Asked.TheVariants.{Quote, Admission}
+use Rattle.call_list.specs.declared.Row.{Row}
+use Rattle.call_list.specs.declared.Row.TheVariants.{Asks, Releases}
+use Rattle.call_list.specs.Calls.{row_at, is_quote, lent, call_at, calls}
+use Rattle.answer_lines.specs.Answers.{answer_text, routed_text, released_text}
 
 -- ---- a line
 -- a space, and quote, release or admission
@@ -17,21 +20,26 @@ release_name = 32 ∷ 114 ∷ 101 ∷ 108 ∷ 101 ∷ 97 ∷ 115 ∷ 101 ∷ []
 abbrev pub admission_name : List ℕ
 admission_name = 32 ∷ 97 ∷ 100 ∷ 109 ∷ 105 ∷ 115 ∷ 115 ∷ 105 ∷ 111 ∷ 110 ∷ []
 
+abbrev pub call_name : Row → List ℕ
+call_name (Asks (Quote r) l) = quote_name
+call_name (Asks (Admission c r) l) = admission_name
+call_name (Releases c) = release_name
+
 -- the row's number and the name of its call
-unfoldable pub name_text : ℕ → ℕ → List ℕ
+unfoldable pub name_text : ℕ → Row → List ℕ
 unfolding decimal
-name_text k kind = decimal k ++ cond (is_quote kind) quote_name (cond (eqb kind 2) release_name admission_name)
+name_text k r = decimal k ++ call_name r
 
 -- what a call answered
 unfoldable pub given_text : Given → List ℕ
-unfolding answer_text release_text
-given_text (of_request said words) = answer_text said words
-given_text (of_release said) = release_text said
+unfolding answer_text routed_text
+given_text (of_request said words) = routed_text said words
+given_text (of_release said) = answer_text (λ _. released_text) said
 
 -- the line of row k with this answer
 unfoldable pub line_of : ℕ → Given → List ℕ
 unfolding name_text given_text
-line_of k g = name_text k (kind_of (get_or rows k [])) ++ given_text g
+line_of k g = name_text k (row_at k) ++ given_text g
 
 -- ---- a run
 -- the lines of these rows, an answer for each
@@ -47,28 +55,28 @@ unfolding line_of
 unquoted_lines [] gs = []
 unquoted_lines (k ∷ ks) [] = []
 unquoted_lines (k ∷ ks) (g ∷ gs) =
-    cond (is_quote (kind_of (get_or rows k []))) (unquoted_lines ks gs) (line_of k g ++ unquoted_lines ks gs)
+    cond (is_quote (row_at k)) (unquoted_lines ks gs) (line_of k g ++ unquoted_lines ks gs)
 
 -- of n rows from row k on, those whose calls are made in a run
 unfoldable pub rows_from : Bool → ℕ → ℕ → List ℕ
 rows_from struck k zero = []
 rows_from struck k (suc n) =
-    cond (struck && is_quote (kind_of (get_or rows k []))) (rows_from struck (suc k) n) (k ∷ rows_from struck (suc k) n)
+    cond (struck && is_quote (row_at k)) (rows_from struck (suc k) n) (k ∷ rows_from struck (suc k) n)
 
 unfoldable pub rows_made : Bool → List ℕ
 unfolding rows_from
 rows_made struck = rows_from struck 0 25
 
 -- ---- as the run goes
--- the line of row k, whose words are r, called on the area w
-unfoldable pub lent_text : Bool → List ℕ → ℕ → List ℕ → List ℕ
+-- the line of row k, which is r, called on the area w
+unfoldable pub lent_text : Bool → List ℕ → ℕ → Row → List ℕ
 unfolding name_text given_text lent
-lent_text struck w k r = name_text k (kind_of r) ++ given_text (given_to w (lent struck k r))
+lent_text struck w k r = name_text k r ++ given_text (given_to w (lent struck k r))
 
 -- nothing where it is a quote and quotes are struck
 unfoldable pub row_text : Bool → List ℕ → ℕ → List ℕ
 unfolding lent_text
-row_text struck w k = cond (struck && is_quote (kind_of (get_or rows k []))) [] (lent_text struck w k (get_or rows k []))
+row_text struck w k = cond (struck && is_quote (row_at k)) [] (lent_text struck w k (row_at k))
 
 -- the lines of n rows from row k on, each called on the area that the one before left
 unfoldable pub text_from : Bool → List ℕ → ℕ → ℕ → List ℕ

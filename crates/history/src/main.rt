@@ -12,11 +12,9 @@
 // bookings are the same. The text of a run's calls is written once, at its end.
 #![tactic(auto)]
 
-ghost use Rattle.std.specs.Prelude.{◌≡◌, true, false, ◌≤◌, length};
-ghost use Rattle.std.proofs.lemmas.List.Edits.{sets};
-ghost use Rattle.area.specs.Layout.{area_words};
+ghost use Rattle.std.specs.Prelude.{◌≡◌, true, false};
 ghost use Rattle.area.specs.Order.{Same};
-ghost use Rattle.area.specs.declared.Loading.TheVariants.{Loaded};
+ghost use Rattle.area.specs.Refusals.{grants};
 ghost use Rattle.area.specs.Load.{load_answer, area_loaded};
 ghost use Rattle.ledger.specs.History.{answers, area_at_end, bookings};
 ghost use Rattle.history.specs.Lines.{lines_of, unquoted_lines, rows_made, run_text};
@@ -24,73 +22,72 @@ ghost use Rattle.cases.specs.Document01.{links_a};
 ghost use Rattle.call_list.specs.Calls.{calls};
 
 mod bookings;
-mod kinds;
 mod list;
-mod output;
 
-use crate::list::every_call;
-use area::Loading;
+use crate::list::{Text, every_call};
+use area::Refusal;
+use arrayvec::ArrayVec;
 use cases::NET_A;
 use station::layout::AREA_WORDS;
 use station::load::load;
 
-fn write_loading(rt: &impl Print, loading: Loading) {
-    let mut text = [0u8; 13];
-    let end = answer_lines::put_loading(&mut text, 0, loading);
-    output::write_text(rt, &text, end);
+// Writes these bytes. A write that fails is not told: the status is 0.
+fn write(rt: &impl Print, bytes: &[u8]) {
+    let _ = rt.write_all(bytes);
+}
+
+fn write_loading(rt: &impl Print, loading: Result<(), Refusal>) {
+    let mut text = ArrayVec::<u8, 13>::new();
+    answer_lines::put_loading(&mut text, loading);
+    write(rt, &text);
 }
 
 // Loads net A, which every area that is long enough takes.
-fn load_net(rt: &impl Print, area: &mut [u32])
-    requires { area_words ≤ length area.old }
-    ensures accepted { load_answer area.old 4 links_a ≡ Loaded }
+#[tactic(auto, using(call_list::proofs::Runs::load_accepts))]
+fn load_net(rt: &impl Print, area: &mut [u32; AREA_WORDS])
+    ensures accepted { load_answer area.old 4 links_a ≡ grants tt }
     ensures area { area.new ≡ area_loaded area.old 4 links_a }
 {
-    let links = NET_A;
-    write_loading(rt, load(4, &links, area));
+    write_loading(rt, load(4, &NET_A, area));
 }
 
-// The list from a load on: its text, and then what is held and free.
-fn run(rt: &impl Print, struck: bool, area: &mut [u32], text: &mut [u8; 10000])
-    requires { area_words ≤ length area.old }
-    ensures accepted { load_answer area.old 4 links_a ≡ Loaded }
+// The list from a load on: its text, and then what is held and free. Answers the text.
+fn run(rt: &impl Print, struck: bool, area: &mut [u32; AREA_WORDS]) -> Text
+    ensures accepted { load_answer area.old 4 links_a ≡ grants tt }
     ensures area { area.new ≡ area_at_end (area_loaded area.old 4 links_a) (calls struck) }
-    ensures text { text.new ≡ sets text.old 0 (run_text struck (area_loaded area.old 4 links_a)) }
+    ensures text { result.items ≡ run_text struck (area_loaded area.old 4 links_a) }
 {
     load_net(rt, area);
-    let end = every_call(struck, area, text);
-    output::write_text(rt, text, end);
+    let text = every_call(struck, area);
+    write(rt, &text);
     bookings::circuits_held(rt, area);
     bookings::every_free(rt, area);
+    text
 }
 
-// Both runs, each on an area of its own and with a text of its own. By the third demand, whatever the areas held, the second
-// run answers each remaining call as the first did, so its text is the first one's without the lines of the quotes; and both
-// leave the same bookings.
+// Both runs, each on an area of its own; answers their texts. By the third demand, whatever the areas held, the second run
+// answers each remaining call as the first did, so its text is the first one's without the lines of the quotes; and both leave
+// the same bookings.
 fn both_runs(
     rt: &impl Print,
-    first: &mut [u32],
-    second: &mut [u32],
-    text: &mut [u8; 10000],
-    unquoted: &mut [u8; 10000],
-)
-    requires { (area_words ≤ length first.old) × (area_words ≤ length second.old) }
+    first: &mut [u32; AREA_WORDS],
+    second: &mut [u32; AREA_WORDS],
+) -> (Text, Text)
     ensures first { first.new ≡ area_at_end (area_loaded first.old 4 links_a) (calls false) }
     ensures second { second.new ≡ area_at_end (area_loaded second.old 4 links_a) (calls true) }
-    ensures text { text.new ≡ sets text.old 0 (lines_of (rows_made false) (answers (area_loaded first.old 4 links_a) (calls false))) }
-    ensures unquoted { unquoted.new ≡ sets unquoted.old 0 (unquoted_lines (rows_made false) (answers (area_loaded first.old 4 links_a) (calls false))) }
+    ensures text { result.0.items ≡ lines_of (rows_made false) (answers (area_loaded first.old 4 links_a) (calls false)) }
+    ensures unquoted { result.1.items ≡ unquoted_lines (rows_made false) (answers (area_loaded first.old 4 links_a) (calls false)) }
     ensures same { Same (bookings second.new) (bookings first.new) }
 {
-    run(rt, false, first, text);
-    output::write(rt, b"quotes struck\n");
-    run(rt, true, second, unquoted);
+    let text = run(rt, false, first);
+    write(rt, b"quotes struck\n");
+    let unquoted = run(rt, true, second);
+    (text, unquoted)
 }
 
 // Before it is loaded, the second area seems to hold seven circuits with number 7.
 fn main(rt: HostRuntime) {
     let mut first: [u32; AREA_WORDS] = [88; AREA_WORDS];
     let mut second: [u32; AREA_WORDS] = [7; AREA_WORDS];
-    let mut text: [u8; 10000] = [0; 10000];
-    let mut unquoted: [u8; 10000] = [0; 10000];
-    both_runs(&rt, &mut first, &mut second, &mut text, &mut unquoted);
+    both_runs(&rt, &mut first, &mut second);
 }

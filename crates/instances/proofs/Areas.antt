@@ -1,17 +1,21 @@
 -- Areas that are well formed, and areas that differ from them in one number and are not; circuits in another order, and
--- other circuits; listings that are right, and some that are not.
+-- other circuits; a circuit that is found by its number, and one that is not; listings that are right, and some that are
+-- not.
 -- Assumes nothing.
+use Prim.Native.Nat.{ℕ}
 use mathlib.Core.Path.{refl, sym, ap}
 use mathlib.Core.Bool.{true≢false}
 use mathlib.Core.List.{List, [], ◌∷◌}
 use native.Mathlib.Omega.{arith}
 use lib.ListN.{replicate}
+use Rattle.std.specs.Prelude.{Some, None}
+use Rattle.network.specs.Loops.{first}
 use Rattle.network.proofs.Paths.{distinct_of}
 use Rattle.area.specs.Station.{Table, Circuit, Station, tail_of, table_in, circuit_of}
 use Rattle.area.specs.Formed.{WellFormed, well_formed}
 use Rattle.area.specs.Moves.{added, Untouched}
 use Rattle.area.specs.Order.{Same, swap, Agrees}
-use Rattle.area.specs.Held.{ListsHeld}
+use Rattle.area.specs.Held.{found_at, FoundAt, ListsHeld}
 use Rattle.area.proofs.Formed.{formed_says, unformed}
 use Rattle.area.proofs.Added.{added_untouched}
 use Rattle.area.proofs.Order.{usage_same, holds_same, count_same}
@@ -102,6 +106,27 @@ swapped_agree = record { table = refl; held = swap }
 
 pub tables_differ : Agrees (fresh 4 links_a) (fresh 4 links_b) → ⊥
 tables_differ h = omega (arith, ap (λ (t : Table). tail_of t 0) h.table)
+
+-- ---- a circuit found by its number: 8 in the second place, and 9 in none
+pub eight_found : FoundAt (two_a 8 10) 2 8 (Some 1)
+unfolding two_a found_at first
+eight_found = (omega arith, refl)
+
+pub nine_not_found : FoundAt (two_a 8 10) 2 9 None
+unfolding two_a found_at first
+nine_not_found = refl
+
+-- not in another place, nor in none
+pub eight_not_first : FoundAt (two_a 8 10) 2 8 (Some 0) → ⊥
+unfolding two_a found_at first
+eight_not_first h = omega (arith, h.1)
+
+pub eight_not_missed : FoundAt (two_a 8 10) 2 8 None → ⊥
+unfolding two_a found_at first
+eight_not_missed h = omega (arith, h)
+
+pub nine_nowhere : (j : ℕ) → FoundAt (two_a 8 10) 2 9 (Some j) → ⊥
+nine_nowhere j h = omega (arith, h.0, h.1, nine_not_found)
 
 -- ---- listings: in either order
 pub listed : ListsHeld (seven ∷ eight ∷ []) (7 ∷ 8 ∷ [])

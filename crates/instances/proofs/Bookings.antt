@@ -11,10 +11,13 @@ use Rattle.search.specs.ebf.Solve.{path_in, answer_in, solve_in, solve}
 use Rattle.search.specs.Distance.{spread, layer, distance}
 use Rattle.search.specs.Heuristic.{tried, search}
 use Rattle.search.specs.Result.{outcome}
-use Rattle.area.specs.Station.{table_in, circuit_of}
-use Rattle.area.specs.Refusals.{refuses}
+use Rattle.network.specs.declared.answer.Reduction.TheVariants.{One, Two}
+use Rattle.area.specs.Station.{station, table_in, circuit_of}
+use Rattle.area.specs.Books.{books}
+use Rattle.area.specs.Refusals.{refuses, grants}
 use Rattle.rules.specs.Replies.{granting, releases}
-use Rattle.rules.specs.Calls.{quote, admission, booked, release, cleared}
+use Rattle.rules.specs.Requests.{request_fits}
+use Rattle.rules.specs.Calls.{number_fits, request_checked, number_checked, quote, admission, booked, release, cleared}
 use Rattle.cases.specs.Document01.{asks, m3, three}
 use Rattle.instances.specs.Nets.{m1, m4}
 use Rattle.instances.specs.Areas.{fresh_a, held_a, two_a}
@@ -28,8 +31,8 @@ pub record Quotes : Type 0 where
   pub eight : quote fresh_a 16384 31 (asking 0 0 1 8 20 8) ≡ refuses 8
   pub nine : quote fresh_a 16384 31 (asks 11 8 20 8) ≡ refuses 9
   pub ten : quote fresh_a 16384 31 m1 ≡ refuses 10
-  pub by_one : quote fresh_a 16384 31 m3 ≡ granting 1 6 15 three
-  pub by_two : quote fresh_a 16384 31 m4 ≡ granting 2 6 15 three
+  pub by_one : quote fresh_a 16384 31 m3 ≡ granting One 6 15 three
+  pub by_two : quote fresh_a 16384 31 m4 ≡ granting Two 6 15 three
 
 -- the same of an admission; circuit 7 is held, 0 and 65,536 are no circuit numbers; and a granted one adds its circuit
 pub record Admissions : Type 0 where
@@ -42,8 +45,18 @@ pub record Admissions : Type 0 where
   pub high_eleven : admission fresh_a 16384 31 65536 m3 ≡ refuses 11
   pub nine : admission held_a 16384 31 8 (asks 11 8 20 8) ≡ refuses 9
   pub ten : admission held_a 16384 31 8 (asks 7 8 20 8) ≡ refuses 10
-  pub granted : admission fresh_a 16384 31 7 (asks 4 8 20 8) ≡ granting 1 6 15 three
-  pub booked_as : booked fresh_a 7 4 (granting 1 6 15 three) ≡ held_a
+  pub granted : admission fresh_a 16384 31 7 (asks 4 8 20 8) ≡ granting One 6 15 three
+  pub booked_as : booked fresh_a 7 4 (granting One 6 15 three) ≡ held_a
+
+-- what the checks of a request and of a circuit number say alone
+pub record Checks : Type 0 where
+  pub six : request_checked fresh_a 16383 31 m3 ≡ refuses 6
+  pub seven : request_checked fresh_a 16384 30 m3 ≡ refuses 7
+  pub eight : request_checked fresh_a 16384 31 (asking 0 0 1 8 20 8) ≡ refuses 8
+  pub request : request_checked fresh_a 16384 31 m3 ≡ grants tt
+  pub none_eleven : number_checked held_a 0 ≡ refuses 11
+  pub held_eleven : number_checked held_a 7 ≡ refuses 11
+  pub number : number_checked held_a 8 ≡ grants tt
 
 -- a release of a circuit that is not held, and of one that is: the numbers of the circuits that remain
 pub record Releases : Type 0 where
@@ -74,6 +87,11 @@ admissions =
       granted = refl;
       booked_as = refl;
     }
+
+pub checks : Checks
+unfolding request_fits number_fits books station fresh_a held_a table_in circuit_of
+checks =
+    record { six = refl; seven = refl; eight = refl; request = refl; none_eleven = refl; held_eleven = refl; number = refl }
 
 pub releasing : Releases
 unfolding release cleared held_a two_a table_in circuit_of first

@@ -8,15 +8,14 @@ use mathlib.Core.Logic.{inl, inr}
 use native.Mathlib.Omega.{arith}
 use lib.ListN.{replicate}
 use Rattle.network.specs.Limits.{most_coefficient}
-use Rattle.area.specs.Refusals.{refuses}
+use Rattle.area.specs.Refusals.{refuses, grants}
 use Rattle.area.specs.Station.{station, table_in}
 use Rattle.area.specs.Books.{books}
-use Rattle.rules.specs.declared.Service.{Service}
-use Rattle.rules.specs.declared.CheckAnswer.TheVariants as check
-use Rattle.rules.specs.declared.ClassAnswer.TheVariants as class
+use Rattle.network.specs.declared.Terms.{Terms}
 use Rattle.rules.specs.Requests.{RequestFits}
 use Rattle.rules.specs.Calls.{quote}
-use Rattle.rules.specs.ClassTable.{asks, request_between, WholeRows, RowFits, RowsFit, ClassTable}
+use Rattle.network.specs.Reduce.{asks}
+use Rattle.rules.specs.ClassTable.{request_between, WholeRows, RowFits, RowsFit, ClassTable}
 use Rattle.rules.specs.Classes.{CheckMeans, ClassMeans, class_answer}
 use Rattle.rules.specs.SampleClasses.{sample}
 use Rattle.rules.proofs.Classes.{accepts_exactly, given_taken, quote_not_eight}
@@ -63,47 +62,47 @@ pub no_units_no_fit : RowFits (asks 0 400 60 8) → ⊥
 no_units_no_fit h = omega (arith, h.units_least)
 
 -- ---- what the check may answer
-pub sample_means : CheckMeans sample check.Accepted
+pub sample_means : CheckMeans sample (grants tt)
 sample_means = sample_table
 
-pub sample_not_refused : CheckMeans sample (check.Refused 20) → ⊥
+pub sample_not_refused : CheckMeans sample (refuses 20) → ⊥
 sample_not_refused (inl h) = h.0 sample_table.counted
 sample_not_refused (inr (_, inl h)) = h.0 sample_table.each
 sample_not_refused (inr (_, inr (_, h))) = h
 
-pub steep_means : CheckMeans steep (check.Refused 21)
+pub steep_means : CheckMeans steep (refuses 21)
 steep_means = inr (λ lacks. lacks steep_whole, inl (steep_no_fit, refl))
 
-pub steep_not_accepted : CheckMeans steep check.Accepted → ⊥
+pub steep_not_accepted : CheckMeans steep (grants tt) → ⊥
 steep_not_accepted = steep_no_table
 
 -- 21 does not come where 20 applies
-pub empty_not_by_range : CheckMeans [] (check.Refused 21) → ⊥
+pub empty_not_by_range : CheckMeans [] (refuses 21) → ⊥
 empty_not_by_range (inl (_, e)) = omega (arith, e)
 empty_not_by_range (inr (whole, _)) = whole empty_no_rows
 
 -- ---- what the class call may answer
 -- pictures is the last class of the sample table
-pub pictures : class_answer sample 5 ≡ class.Row (asks 16 3000 600 2)
+pub pictures : class_answer sample 5 ≡ grants (asks 16 3000 600 2)
 unfolding class_answer
 pictures = refl
 
-pub pictures_mean : ClassMeans sample 5 (class.Row (asks 16 3000 600 2))
+pub pictures_mean : ClassMeans sample 5 (grants (asks 16 3000 600 2))
 pictures_mean = (sample_table, omega arith, refl)
 
 -- another row is not its answer, nor is a row past the last
-pub pictures_no_card : ClassMeans sample 5 (class.Row (asks 1 400 60 8)) → ⊥
-pictures_no_card h = omega (arith, ap (λ (s : Service). s.units) h.2)
+pub pictures_no_card : ClassMeans sample 5 (grants (asks 1 400 60 8)) → ⊥
+pictures_no_card h = omega (arith, ap (λ (s : Terms). s.units) h.2)
 
-pub seventh_no_row : (s : Service) → ClassMeans sample 6 (class.Row s) → ⊥
+pub seventh_no_row : (s : Terms) → ClassMeans sample 6 (grants s) → ⊥
 seventh_no_row s h = omega (arith, h.1)
 
-pub sixteen : class_answer sample 6 ≡ class.Refused 16
+pub sixteen : class_answer sample 6 ≡ refuses 16
 unfolding class_answer
 sixteen = refl
 
 -- 16 does not come where the table is refused
-pub steep_not_sixteen : ClassMeans steep 9 (class.Refused 16) → ⊥
+pub steep_not_sixteen : ClassMeans steep 9 (refuses 16) → ⊥
 steep_not_sixteen (inl (_, e)) = omega (arith, e)
 steep_not_sixteen (inr (_, inl (_, e))) = omega (arith, e)
 steep_not_sixteen (inr (_, inr (fit, _))) = fit steep_no_fit

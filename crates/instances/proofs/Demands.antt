@@ -15,81 +15,75 @@ use Rattle.network.specs.Reduce.{delay_bound, cost_bound, one, two, Enough}
 use Rattle.network.specs.declared.Request.{Request}
 use Rattle.network.specs.declared.Grant.{Grant as Numbers}
 use Rattle.search.specs.Result.{GrantedByOne, GrantedByTwo}
+use Rattle.network.specs.declared.answer.Reduction.TheVariants.{One, Two}
 use Rattle.area.specs.Station.{Circuit}
 use Rattle.area.specs.Books.{Books, books, net}
 use Rattle.area.specs.Order.{Same}
 use Rattle.area.specs.Moves.{without}
 use Rattle.area.specs.Refusals.{Rule, FirstApplies, Passes, refuses, grants, IsRefused, IsGranted}
-use Rattle.area.specs.declared.Loading.TheVariants as loading
-use Rattle.area.specs.declared.ValueAnswer.TheVariants as value
 use Rattle.area.specs.Load.{load_answer, area_loaded}
 use Rattle.area.specs.Reads.{list_answer, listed, free_answer}
-use Rattle.rules.specs.declared.RequestAnswer.TheVariants as request
-use Rattle.rules.specs.declared.ReleaseAnswer.TheVariants as release
-use Rattle.rules.specs.declared.Service.{Service}
-use Rattle.rules.specs.declared.CheckAnswer.TheVariants as check
-use Rattle.rules.specs.declared.ClassAnswer.TheVariants as class
-use Rattle.rules.specs.Replies.{PathGrant, PathReply, answer_of, path_of, path_after, ReleaseReply, release_answer_of}
+use Rattle.network.specs.declared.Terms.{Terms}
+use Rattle.rules.specs.Replies.{PathGrant, PathReply, answer_of, path_of, path_after, ReleaseReply}
 use Rattle.rules.specs.Calls as calls
 use Rattle.rules.specs.Classes.{check_answer, class_answer}
 use Rattle.rules.specs.Allowed.{Grant, search_rules, request_rules, number_rules, release_rules}
 use Rattle.link_format.specs.declared.Size.{Size}
-use Rattle.link_format.specs.declared.FileAnswer.TheVariants as file
 use Rattle.link_format.specs.Reading.{read_answer, table_read}
 use Rattle.ledger.specs.Entries.{quoting, admitting, releasing, told, Ledger, opened, moved}
-use Rattle.ledger.specs.History.{Lending, Given, of_request, of_release, release_given, answers, area_at_end, bookings, strike, keep, end}
+use Rattle.ledger.specs.History.{Lending, Given, of_request, of_release, answers, area_at_end, bookings, strike, keep, end}
 use Rattle.ledger.specs.Sentences.{Solvable}
 use Rattle.ledger.specs.Demand.{FirstDemand, GrantedPath, SecondDemand, ThirdDemand}
 
 -- ---- the first demand: each call on any words and numbers
 module _ (demand : FirstDemand) where
   pub load_decided : (w : List ℕ) (n : ℕ) (links : List ℕ)
-      → (load_answer w n links ≡ loading.Loaded)
-      ⊎ ((number : ℕ) × (memb number (1 ∷ 2 ∷ 3 ∷ 4 ∷ []) ≡ true) × (load_answer w n links ≡ loading.Refused number) × (area_loaded w n links ≡ w))
+      → ((u : Unit {0}) × (load_answer w n links ≡ grants u))
+      ⊎ ((number : ℕ) × (memb number (1 ∷ 2 ∷ 3 ∷ 4 ∷ []) ≡ true) × (load_answer w n links ≡ refuses number) × (area_loaded w n links ≡ w))
   load_decided = demand.load
 
   module _ (w : List ℕ) (work : ℕ) (l : List ℕ) (r : Request) where
-    pub quote_decided : ((g : Numbers) × (answer_of (calls.quote w work (length l) r) ≡ request.Granted g))
-        ⊎ ((number : ℕ) × (memb number (5 ∷ 6 ∷ 7 ∷ 8 ∷ 9 ∷ 10 ∷ []) ≡ true) × (answer_of (calls.quote w work (length l) r) ≡ request.Refused number)
+    pub quote_decided : ((g : Numbers) × (answer_of (calls.quote w work (length l) r) ≡ grants g))
+        ⊎ ((number : ℕ) × (memb number (5 ∷ 6 ∷ 7 ∷ 8 ∷ 9 ∷ 10 ∷ []) ≡ true) × (answer_of (calls.quote w work (length l) r) ≡ refuses number)
         × (path_after (calls.quote w work (length l) r) l ≡ l))
     quote_decided = demand.quote w work l r
 
-    pub admission_decided : (c : ℕ) → ((g : Numbers) × (answer_of (calls.admission w work (length l) c r) ≡ request.Granted g))
+    pub admission_decided : (c : ℕ) → ((g : Numbers) × (answer_of (calls.admission w work (length l) c r) ≡ grants g))
         ⊎ ((number : ℕ) × (memb number (5 ∷ 6 ∷ 7 ∷ 8 ∷ 11 ∷ 12 ∷ 9 ∷ 10 ∷ []) ≡ true)
-        × (answer_of (calls.admission w work (length l) c r) ≡ request.Refused number)
-        × ((calls.booked w c r.units (calls.admission w work (length l) c r) ≡ w)
+        × (answer_of (calls.admission w work (length l) c r) ≡ refuses number)
+        × ((calls.booked w c r.terms.units (calls.admission w work (length l) c r) ≡ w)
         × (path_after (calls.admission w work (length l) c r) l ≡ l)))
     admission_decided c = demand.admission w work l c r
 
   pub release_decided : (w : List ℕ) (c : ℕ)
-      → (release_answer_of (calls.release w c) ≡ release.Released)
-      ⊎ ((number : ℕ) × (memb number (5 ∷ 13 ∷ []) ≡ true) × (release_answer_of (calls.release w c) ≡ release.Refused number)
+      → ((u : Unit {0}) × (calls.release w c ≡ grants u))
+      ⊎ ((number : ℕ) × (memb number (5 ∷ 13 ∷ []) ≡ true) × (calls.release w c ≡ refuses number)
       × (calls.cleared w c (calls.release w c) ≡ w))
   release_decided = demand.release
 
   pub list_decided : (w l : List ℕ)
-      → ((h : ℕ) × (list_answer w (length l) ≡ value.Value h))
-      ⊎ ((number : ℕ) × (memb number (5 ∷ 14 ∷ []) ≡ true) × (list_answer w (length l) ≡ value.Refused number) × (listed w l ≡ l))
+      → ((h : ℕ) × (list_answer w (length l) ≡ grants h))
+      ⊎ ((number : ℕ) × (memb number (5 ∷ 14 ∷ []) ≡ true) × (list_answer w (length l) ≡ refuses number) × (listed w l ≡ l))
   list_decided = demand.list
 
   pub free_decided : (w : List ℕ) (i : ℕ)
-      → ((u : ℕ) × (free_answer w i ≡ value.Value u))
-      ⊎ ((number : ℕ) × (memb number (5 ∷ 15 ∷ []) ≡ true) × (free_answer w i ≡ value.Refused number) × Unit {0})
+      → ((u : ℕ) × (free_answer w i ≡ grants u))
+      ⊎ ((number : ℕ) × (memb number (5 ∷ 15 ∷ []) ≡ true) × (free_answer w i ≡ refuses number) × Unit {0})
   free_decided = demand.free_units
 
   pub check_classes_decided : (rows : List ℕ)
-      → (check_answer rows ≡ check.Accepted)
-      ⊎ ((number : ℕ) × (memb number (20 ∷ 21 ∷ []) ≡ true) × (check_answer rows ≡ check.Refused number) × Unit {0})
+      → ((u : Unit {0}) × (check_answer rows ≡ grants u))
+      ⊎ ((number : ℕ) × (memb number (20 ∷ 21 ∷ []) ≡ true) × (check_answer rows ≡ refuses number) × Unit {0})
   check_classes_decided = demand.check_classes
 
   pub class_decided : (rows : List ℕ) (k : ℕ)
-      → ((s : Service) × (class_answer rows k ≡ class.Row s))
-      ⊎ ((number : ℕ) × (memb number (20 ∷ 21 ∷ 16 ∷ []) ≡ true) × (class_answer rows k ≡ class.Refused number) × Unit {0})
+      → ((s : Terms) × (class_answer rows k ≡ grants s))
+      ⊎ ((number : ℕ) × (memb number (20 ∷ 21 ∷ 16 ∷ []) ≡ true) × (class_answer rows k ≡ refuses number) × Unit {0})
   class_decided = demand.class
 
   pub file_decided : (f t : List ℕ)
-      → ((s : Size) × (read_answer f (length t) ≡ file.Table s))
-      ⊎ ((number : ℕ) × (memb number (17 ∷ 18 ∷ 19 ∷ []) ≡ true) × (read_answer f (length t) ≡ file.Refused number) × (table_read f t ≡ t))
+      → ((s : Size) × (read_answer f (length t) ≡ grants s))
+      ⊎ ((number : ℕ) × (memb number (17 ∷ 18 ∷ 19 ∷ []) ≡ true) × (read_answer f (length t) ≡ refuses number) × (table_read f t ≡ t))
   file_decided = demand.link_file
 
 -- ---- a quote, an admission of circuit c and a release of circuit d, from the area that Load leaves of w
@@ -108,7 +102,7 @@ module _ (w : List ℕ) (n : ℕ) (links : List ℕ) (work path work' path' : Li
   admitted = calls.admission start (length work') (length path') c r'
 
   abbrev later : List ℕ
-  later = calls.booked start c r'.units admitted
+  later = calls.booked start c r'.terms.units admitted
 
   abbrev freed : ReleaseReply
   freed = calls.release later d
@@ -122,10 +116,10 @@ module _ (w : List ℕ) (n : ℕ) (links : List ℕ) (work path work' path' : Li
 
   -- the networks that the two requests see
   abbrev g : Net
-  g = net early r.units
+  g = net early r.terms.units
 
   abbrev g' : Net
-  g' = net early r'.units
+  g' = net early r'.terms.units
 
   -- the rules of each call
   abbrev quoting_rules : List Rule
@@ -152,18 +146,18 @@ module _ (w : List ℕ) (n : ℕ) (links : List ℕ) (work path work' path' : Li
       × (sum h.delay b.path ≤ delay_bound q)
       × (sum h.cost b.path ≤ cost_bound q)
       × ((k : ℕ) × Distance h q.source q.target k
-      × (((b.problem ≡ 1) × Best h (one h q k) q.source q.target b.path)
-      ⊎ ((b.problem ≡ 2) × NoSolution h (one h q k) q.source q.target × Best h (two h q k) q.source q.target b.path)))
+      × (((b.problem ≡ One) × Best h (one h q k) q.source q.target b.path)
+      ⊎ ((b.problem ≡ Two) × NoSolution h (one h q k) q.source q.target × Best h (two h q k) q.source q.target b.path)))
       × (b.delay ≡ sum h.delay b.path)
       × (b.cost ≡ sum h.cost b.path)
 
   good : (h : Net) (q : Request) (b : PathGrant) → GrantedPath h q b → Good h q b
   good h q b p = (p.runs, p.once, p.bounds.delay, p.bounds.cost, go p.least, p.delay, p.cost)
     where
-      go : ((b.problem ≡ 1) × GrantedByOne h q b.path) ⊎ ((b.problem ≡ 2) × GrantedByTwo h q b.path)
+      go : ((b.problem ≡ One) × GrantedByOne h q b.path) ⊎ ((b.problem ≡ Two) × GrantedByTwo h q b.path)
           → (k : ℕ) × Distance h q.source q.target k
-          × (((b.problem ≡ 1) × Best h (one h q k) q.source q.target b.path)
-          ⊎ ((b.problem ≡ 2) × NoSolution h (one h q k) q.source q.target × Best h (two h q k) q.source q.target b.path))
+          × (((b.problem ≡ One) × Best h (one h q k) q.source q.target b.path)
+          ⊎ ((b.problem ≡ Two) × NoSolution h (one h q k) q.source q.target × Best h (two h q k) q.source q.target b.path))
       go (inl (e, a)) = (a.0, a.1, inl (e, a.2))
       go (inr (e, a)) = (a.0, a.1, inr (e, a.2, a.3))
 
@@ -220,13 +214,12 @@ module _ (w : List ℕ) (n : ℕ) (links : List ℕ) (work path work' path' : Li
 
     -- what the three calls answer
     pub all_answered : answers start list
-        ≡ of_request (answer_of quoted) (path_of quoted) ∷ of_request (answer_of admitted) (path_of admitted) ∷ of_release (release_answer_of freed) ∷ []
-    unfolding release_given
+        ≡ of_request (answer_of quoted) (path_of quoted) ∷ of_request (answer_of admitted) (path_of admitted) ∷ of_release freed ∷ []
     all_answered = demand.answered
 
     -- after a granted admission and the release, the admitted circuit is held, unless it is the one released, and no other
     pub books_kept : (b : PathGrant) → admitted ≡ grants b
-        → Same (bookings (calls.cleared later d freed)) (without d (record { number = c; units = r'.units; path = b.path } ∷ []))
+        → Same (bookings (calls.cleared later d freed)) (without d (record { number = c; units = r'.terms.units; path = b.path } ∷ []))
     books_kept b e =
         subst (λ (a : PathReply). Same (bookings (calls.cleared later d freed)) (without d (held a))) e demand.books
       where
@@ -246,9 +239,9 @@ module _ (w : List ℕ) (n : ℕ) (links : List ℕ) (work path work' path' : Li
 
     -- the quote struck: on any area that Load accepts, the other two calls, lent as many words, answer as they did, and
     -- leave the same bookings
-    pub unquoted : (v : List ℕ) → load_answer v n links ≡ loading.Loaded → (lent lent' : List ℕ) → length work' ≡ length lent → length path' ≡ length lent'
+    pub unquoted : (v : List ℕ) → load_answer v n links ≡ grants tt → (lent lent' : List ℕ) → length work' ≡ length lent → length path' ≡ length lent'
         → (answers (area_loaded v n links) (admitting lent lent' c r' ∷ releasing d ∷ [])
-        ≡ of_request (answer_of admitted) (path_of admitted) ∷ of_release (release_answer_of freed) ∷ [])
+        ≡ of_request (answer_of admitted) (path_of admitted) ∷ of_release freed ∷ [])
         × Same (bookings (area_at_end (area_loaded v n links) (admitting lent lent' c r' ∷ releasing d ∷ []))) (bookings (calls.cleared later d freed))
     unquoted v accepted lent lent' e f =
         let said = demand.struck v accepted (admitting lent lent' c r' ∷ releasing d ∷ [])

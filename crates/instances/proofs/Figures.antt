@@ -9,6 +9,7 @@ use Rattle.network.specs.Net.{sum}
 use Rattle.network.specs.Scale.{Overqualified}
 use Rattle.network.specs.Problem.{Distance}
 use Rattle.network.specs.Reduce.{asking}
+use Rattle.network.specs.declared.answer.Reduction.TheVariants.{One}
 use Rattle.area.specs.Refusals.{refuses}
 use Rattle.rules.specs.Replies.{granting}
 use Rattle.rules.specs.Meaning.{net_for, Quoted, Admitted}
@@ -45,19 +46,19 @@ module _ (h : All CaseHolds cases) where
   unfolding cases area_in
   m5 = h.1.1.1.1.0
 
-  pub m7 : Quoted net_a 16384 31 (asking 0 3 10 8 20 8) (granting 1 6 15 three) × Quoted net_a 16384 31 (asking 0 3 11 8 20 8) (refuses 9)
+  pub m7 : Quoted net_a 16384 31 (asking 0 3 10 8 20 8) (granting One 6 15 three) × Quoted net_a 16384 31 (asking 0 3 11 8 20 8) (refuses 9)
   unfolding cases area_in
   m7 = (h.1.1.1.1.1.1.0, h.1.1.1.1.1.1.1.0)
 
-  pub m8 : Admitted net_a 16384 31 1 (asking 0 3 4 8 20 8) (granting 1 6 15 three)
-      × Quoted net_a4 16384 31 (asking 0 3 6 8 20 8) (granting 1 6 15 three)
+  pub m8 : Admitted net_a 16384 31 1 (asking 0 3 4 8 20 8) (granting One 6 15 three)
+      × Quoted net_a4 16384 31 (asking 0 3 6 8 20 8) (granting One 6 15 three)
       × Quoted net_a4 16384 31 (asking 0 3 7 8 20 8) (refuses 10)
-      × Quoted net_a4 16384 31 (asking 0 3 7 9 20 8) (granting 1 9 1 (3 ∷ []))
+      × Quoted net_a4 16384 31 (asking 0 3 7 9 20 8) (granting One 9 1 (3 ∷ []))
   unfolding cases area_in
   m8 = let l = h.1.1.1.1.1.1.1.1 in (l.0, l.1.0, l.1.1.0, l.1.1.1.0)
 
   pub m9_to_m11 : Quoted net_a 16384 31 (asking 0 0 1 8 20 8) (refuses 8)
       × Quoted bare 16384 31 (asking 0 3 1 8 20 8) (refuses 9)
-      × Quoted net_b 16384 31 (asking 0 3 1 2 8 4) (granting 1 2 2 (3 ∷ 2 ∷ []))
+      × Quoted net_b 16384 31 (asking 0 3 1 2 8 4) (granting One 2 2 (3 ∷ 2 ∷ []))
   unfolding cases area_in
   m9_to_m11 = let l = h.1.1.1.1.1.1.1.1.1.1.1.1 in (l.0, l.1.0, l.1.1.0)

@@ -24,25 +24,25 @@ use Rattle.search.specs.ebf.Solve.{path_in, answer_in, solve_in, solve}
 use Rattle.search.specs.Distance.{spread, layer, distance}
 use Rattle.search.specs.Heuristic.{tried, search}
 use Rattle.search.specs.Result.{Alike, outcome}
+use Rattle.network.specs.declared.answer.Reduction.TheVariants.{One}
 use Rattle.area.specs.Station.{Station, table_in, station}
 use Rattle.area.specs.Books.{usage, holds, books, net}
-use Rattle.area.specs.Formed.{WellFormed}
+use Rattle.area.specs.Formed.{WellFormed, well_formed}
 use Rattle.area.specs.Moves.{with_circuit}
 use Rattle.area.proofs.Formed.{formed_test}
 use Rattle.area.proofs.Added.{added_station}
-use Rattle.area.specs.declared.Loading.TheVariants.{Loaded}
 use Rattle.area.specs.Load.{table_of, load_answer, area_loaded}
 use Rattle.area.proofs.Loads.{accepted_station, accepted_formed}
 use Rattle.area.proofs.ReadCases.{links_few}
 use Rattle.rules.specs.Requests.{request_fits}
-use Rattle.area.specs.Refusals.{refuses}
+use Rattle.area.specs.Refusals.{refuses, grants}
 use Rattle.rules.specs.Replies.{PathReply, granting, answer_of, path_after, reply_of}
-use Rattle.rules.specs.Calls.{number_fits, searched, admission, booked}
+use Rattle.rules.specs.Calls.{number_fits, request_checked, number_checked, searched, admission, booked}
 use Rattle.rules.specs.Meaning.{books_in}
 use Rattle.rules.proofs.Facts.{count_is}
 use Rattle.rules.proofs.Bookings.{admitted_formed}
 use Rattle.rules.proofs.Depends.{choice_depends}
-use Rattle.rules.proofs.CallCases.{Passed, fails_12, searches}
+use Rattle.rules.proofs.CallCases.{request_passes, number_passes, fails_12, number_refused, admission_passed}
 use Rattle.ledger.specs.Entries.{admitting}
 use Rattle.ledger.specs.History.{Lending, Given, of_request, path_given, reply_to, area_after, answers, area_at_end}
 use Rattle.cases.specs.Document01.{blank}
@@ -54,7 +54,7 @@ asked = asking 0 1 1 8 20 8
 
 -- the reply to each of the admissions
 abbrev pub by_link : PathReply
-by_link = granting 1 2 5 (0 ∷ [])
+by_link = granting One 2 5 (0 ∷ [])
 
 abbrev pub Granted : List Given → Type 0
 Granted = All (λ g. g ≡ of_request (answer_of by_link) (0 ∷ []))
@@ -80,7 +80,7 @@ record Reached (k : ℕ) : Type 0 where
   is : station (filled k) ≡ holding k
   formed : WellFormed (filled k)
 
-pub link_accepted : load_answer blank 2 one_link ≡ Loaded
+pub link_accepted : load_answer blank 2 one_link ≡ grants tt
 unfolding load_answer
 link_accepted = refl
 
@@ -107,7 +107,7 @@ alike k low =
     usable zero l = le-leb 1 (65535 - usage (circuits_to k) 0) (omega (arith, circuits_usage k))
     usable (suc i) l = absurd (omega (arith, l))
 
-first_found : outcome (net (books (holding 0)) 1) asked ≡ granted 1 (0 ∷ [])
+first_found : outcome (net (books (holding 0)) 1) asked ≡ granted One (0 ∷ [])
 unfolding net books outcome search tried solve solve_in answer_in path_in ebf rounds round column offered relaxed improved initialised filled_cells cell cells traced step_back place_back noted follow distance layer spread problem_one problem_two scaled member inserted iter first
 first_found = refl
 
@@ -125,11 +125,14 @@ new k low =
 
 -- ---- one admission more, whatever work memory and path buffer it is lent
 module _ (work path : ℕ) (memory : 16384 ≤ work) (buffer : 31 ≤ path) (k : ℕ) (here : Reached k) where
-  passed : Passed (filled k) work path asked
+  formed : well_formed (filled k) ≡ true
+  formed = formed_test _ here.formed
+
+  passed : grants tt ≡ request_checked (filled k) work path asked
   unfolding station table_in request_fits
   passed =
       let nodes = ap (λ (s : Station). s.table.nodes) here.is in
-      record { formed = formed_test _ here.formed; memory = memory; buffer = buffer; request = rw nodes refl }
+      request_passes (filled k) work path asked memory buffer (rw nodes refl)
 
   held : (books_in (filled k)).count ≡ k
   unfolding books
@@ -141,7 +144,8 @@ module _ (work path : ℕ) (memory : 16384 ≤ work) (buffer : 31 ≤ path) (k :
   next_granted : k < 64 → admission (filled k) work path (suc k) asked ≡ by_link
   next_granted low =
       let place_left : get_or (filled k) 2 0 < 64 = omega (arith, held, count_is (filled k)) in
-      sym (searches (filled k) work path (suc k) asked passed (fits (omega arith)) place_left)
+      let number : grants tt ≡ number_checked (filled k) (suc k) = number_passes (filled k) (suc k) (fits (omega arith)) place_left in
+      sym (admission_passed (filled k) work path (suc k) asked formed passed number)
       ∙ ap (λ (s : Station). searched (books s) asked) here.is
       ∙ found k (omega arith)
 
@@ -163,7 +167,8 @@ module _ (work path : ℕ) (memory : 16384 ≤ work) (buffer : 31 ≤ path) (k :
   sixty_fifth : k ≡ 64 → admission (filled k) work path (suc k) asked ≡ refuses 12
   sixty_fifth e =
       let full : 64 ≤ get_or (filled k) 2 0 = omega (arith, e, held, count_is (filled k)) in
-      sym (fails_12 (filled k) work path (suc k) asked passed (fits (omega (arith, e))) full)
+      let number : refuses 12 ≡ number_checked (filled k) (suc k) = fails_12 (filled k) (suc k) (fits (omega (arith, e))) full in
+      sym (number_refused (filled k) work path (suc k) asked formed passed 12 number)
 
 -- ---- the list of admissions, each lent the same words
 module _ (work path : List ℕ) (memory : 16384 ≤ length work) (buffer : 31 ≤ length path) where

@@ -17,13 +17,13 @@ use Rattle.search.specs.ebf.Solve.{path_in, answer_in, solve_in, solve}
 use Rattle.search.specs.Distance.{spread, layer, distance}
 use Rattle.search.specs.Heuristic.{tried, search}
 use Rattle.search.specs.Result.{outcome}
+use Rattle.area.specs.Refusals.{grants}
 use Rattle.area.specs.Station.{table_in, circuit_of}
 use Rattle.area.specs.Order.{Same}
-use Rattle.area.specs.declared.Loading.TheVariants.{Loaded}
 use Rattle.area.specs.Load.{load_answer, area_loaded}
 use Rattle.rules.specs.Calls.{quote, admission, booked, release, cleared}
 use Rattle.ledger.specs.Entries.{admitting, releasing}
-use Rattle.ledger.specs.History.{Lending, path_given, release_given, answers, area_at_end, bookings, Struck, end, strike, keep, remaining}
+use Rattle.ledger.specs.History.{Lending, path_given, answers, area_at_end, bookings, Struck, end, strike, keep, remaining}
 use Rattle.ledger.specs.Demand.{ThirdDemand}
 use Rattle.ledger.proofs.Demands.{third_demand}
 use Rattle.cases.specs.Document01.{blank, links_a, m3, three}
@@ -31,7 +31,7 @@ use Rattle.instances.specs.Areas.{circuit}
 use Rattle.instances.specs.Calls.{work, path, calls, expected, unquoted}
 
 -- ---- the third demand's premise is met, so it holds of the list
-pub accepted : load_answer blank 4 links_a ≡ Loaded
+pub accepted : load_answer blank 4 links_a ≡ grants tt
 unfolding load_answer
 accepted = refl
 
@@ -44,7 +44,7 @@ start = area_loaded blank 4 links_a
 
 pub list_answers : (answers start calls ≡ expected)
     × (bookings (area_at_end start calls) ≡ circuit 8 1 three ∷ [])
-unfolding area_loaded path_given release_given quote admission booked release cleared table_in circuit_of outcome search tried solve solve_in answer_in path_in ebf rounds round column offered relaxed improved initialised filled cell cells traced step_back place_back noted follow distance layer spread problem_one problem_two scaled iter first
+unfolding area_loaded path_given quote admission booked release cleared table_in circuit_of outcome search tried solve solve_in answer_in path_in ebf rounds round column offered relaxed improved initialised filled cell cells traced step_back place_back noted follow distance layer spread problem_one problem_two scaled iter first
 list_answers = (refl, refl)
 
 -- ---- quotes struck

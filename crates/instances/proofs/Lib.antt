@@ -2,6 +2,7 @@ pub mod Ranges
 pub mod Paths
 pub mod Problems
 pub mod Searches
+pub mod Hops
 pub mod Areas
 pub mod Stations
 pub mod Bookings

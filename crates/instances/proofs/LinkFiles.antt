@@ -4,7 +4,7 @@ use Prim.Native.Nat.{ℕ, ◌*◌}
 use mathlib.Core.Path.{◌≡◌, refl}
 use mathlib.Core.List.{List, [], ◌∷◌, ◌++◌}
 use native.Mathlib.Omega.{arith}
-use Rattle.link_format.specs.declared.FileAnswer.TheVariants.{Refused, Table}
+use Rattle.area.specs.Refusals.{refuses, grants}
 use Rattle.link_format.specs.Format.{bytes_of_all, trailer, letters, LinkFile}
 use Rattle.link_format.specs.Reading.{word_at, signed, fills, record_words, read_answer, table_read}
 use Rattle.link_format.proofs.LinkFiles.{reads_link_file}
@@ -33,7 +33,7 @@ is_file =
     }
 
 -- what is refused is none, whatever its numbers
-refused_none : (f : List ℕ) (k : ℕ) → ((table : ℕ) → read_answer f table ≡ Refused k)
+refused_none : (f : List ℕ) (k : ℕ) → ((table : ℕ) → read_answer f table ≡ refuses k)
     → (n m : ℕ) (ws : List ℕ) → LinkFile n m ws f
     → ⊥
 refused_none f k refused n m ws h =
@@ -54,12 +54,12 @@ offset_no_file = refused_none (file 1 1) 18 (λ table. refl)
 -- the reader: a file of 15 bytes, other letters in the end, 257 links, a wrong offset, a table that is a word too
 -- short; a file that is read, and the table after
 pub record Readings : Type 0 where
-  pub short_seventeen : read_answer (0 ∷ 0 ∷ 0 ∷ 0 ∷ 0 ∷ 0 ∷ 0 ∷ 0 ∷ 2 ∷ 0 ∷ 0 ∷ letters) 5 ≡ Refused 17
-  pub letters_seventeen : read_answer (file 2 1 ++ 75 ∷ []) 5 ≡ Refused 17
-  pub many_eighteen : read_answer (file 2 257) 5 ≡ Refused 18
-  pub offset_eighteen : read_answer (file 3 1) 5 ≡ Refused 18
-  pub nineteen : read_answer (file 2 1) 4 ≡ Refused 19
-  pub read : read_answer (file 2 1) 5 ≡ Table (record { nodes = 2; links = 1 })
+  pub short_seventeen : read_answer (0 ∷ 0 ∷ 0 ∷ 0 ∷ 0 ∷ 0 ∷ 0 ∷ 0 ∷ 2 ∷ 0 ∷ 0 ∷ letters) 5 ≡ refuses 17
+  pub letters_seventeen : read_answer (file 2 1 ++ 75 ∷ []) 5 ≡ refuses 17
+  pub many_eighteen : read_answer (file 2 257) 5 ≡ refuses 18
+  pub offset_eighteen : read_answer (file 3 1) 5 ≡ refuses 18
+  pub nineteen : read_answer (file 2 1) 4 ≡ refuses 19
+  pub read : read_answer (file 2 1) 5 ≡ grants (record { nodes = 2; links = 1 })
   pub table : table_read (file 2 1) (9 ∷ 9 ∷ 9 ∷ 9 ∷ 9 ∷ 9 ∷ []) ≡ 0 ∷ 1 ∷ 2 ∷ 5 ∷ 300 ∷ 9 ∷ []
 
 pub readings : Readings

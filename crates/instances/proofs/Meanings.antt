@@ -19,13 +19,10 @@ use Rattle.area.specs.Order.{Same}
 use Rattle.area.specs.Moves.{without, Untouched}
 use Rattle.area.specs.Held.{ListsHeld}
 use Rattle.area.specs.Refusals.{Rule, ◌when◌, FirstApplies, Passes, Reply, refuses, grants, Answered}
-use Rattle.area.specs.declared.ValueAnswer.TheVariants.{Refused, Value}
 use Rattle.area.specs.Reads.{count_of, buffer_after, list_rules, ListMeans}
-use Rattle.rules.specs.declared.RequestAnswer.TheVariants as request
-use Rattle.rules.specs.declared.ReleaseAnswer.TheVariants as release
-use Rattle.rules.specs.Replies.{PathGrant, PathReply, answer_of, path_after, ReleaseReply, release_answer_of}
+use Rattle.rules.specs.Replies.{PathGrant, PathReply, answer_of, path_after}
 use Rattle.rules.specs.Allowed.{Grant, search_rules, number_rules}
-use Rattle.rules.specs.Meaning.{books_in, quote_rules, net_for, Quoted, Admitted, Cleared, AreaBooked, AreaCleared, QuoteMeans, AdmissionMeans, ReleaseMeans}
+use Rattle.rules.specs.Meaning.{books_in, quote_rules, net_for, Quoted, Admitted, AreaBooked, QuoteMeans, AdmissionMeans, ReleaseMeans}
 use Rattle.instances.proofs.Areas.{seven}
 
 -- what a caller knows of a granted path: no rule applied, it is a best one of its problem, the numbers are its own, and it
@@ -43,21 +40,21 @@ module _ (w : List ℕ) (work : ℕ) (l : List ℕ) (r : Request) (l' : List ℕ
   quoting_rules = quote_rules w work (length l) r ++ search_rules (net_for w r) r
 
   -- refused: by the first rule that applies, and the path buffer is as it was
-  pub quote_refused : (k : ℕ) → QuoteMeans w work l r (request.Refused k) l' → FirstApplies quoting_rules k × (l' ≡ l)
+  pub quote_refused : (k : ℕ) → QuoteMeans w work l r (refuses k) l' → FirstApplies quoting_rules k × (l' ≡ l)
   unfolding answer_of path_after
   quote_refused k h = go h.reply h.allowed h.answer h.path
     where
-      go : (a : PathReply) → Quoted w work (length l) r a → request.Refused k ≡ answer_of a → l' ≡ path_after a l
+      go : (a : PathReply) → Quoted w work (length l) r a → refuses k ≡ answer_of a → l' ≡ path_after a l
           → FirstApplies quoting_rules k × (l' ≡ l)
       go (refuses j) allowed e path = let same : j ≡ k = cc in (rw (← same) allowed, path)
       go (grants b) allowed e path = absurd (zero_one cc)
 
   -- granted: a path
-  pub quote_granted : (g : Numbers) → QuoteMeans w work l r (request.Granted g) l' → (b : PathGrant) × PathGiven quoting_rules (net_for w r) r g l l' b
+  pub quote_granted : (g : Numbers) → QuoteMeans w work l r (grants g) l' → (b : PathGrant) × PathGiven quoting_rules (net_for w r) r g l l' b
   unfolding answer_of path_after
   quote_granted g h = go h.reply h.allowed h.answer h.path
     where
-      go : (a : PathReply) → Quoted w work (length l) r a → request.Granted g ≡ answer_of a → l' ≡ path_after a l
+      go : (a : PathReply) → Quoted w work (length l) r a → grants g ≡ answer_of a → l' ≡ path_after a l
           → (b : PathGrant) × PathGiven quoting_rules (net_for w r) r g l l' b
       go (refuses j) allowed e path = absurd (zero_one cc)
       go (grants b) allowed e path = (b, (allowed.0, allowed.1, cc, path))
@@ -68,11 +65,11 @@ module _ (w : List ℕ) (work : ℕ) (l : List ℕ) (c : ℕ) (r : Request) (l' 
   admission_rules = quote_rules w work (length l) r ++ number_rules (books_in w) c ++ search_rules (net_for w r) r
 
   -- refused: neither the path buffer nor the area has changed
-  pub admission_refused : (k : ℕ) → AdmissionMeans w work l c r (request.Refused k) l' w' → FirstApplies admission_rules k × (l' ≡ l) × (w' ≡ w)
+  pub admission_refused : (k : ℕ) → AdmissionMeans w work l c r (refuses k) l' w' → FirstApplies admission_rules k × (l' ≡ l) × (w' ≡ w)
   unfolding answer_of path_after
   admission_refused k h = go h.reply h.allowed h.answer h.path h.area
     where
-      go : (a : PathReply) → Admitted w work (length l) c r a → request.Refused k ≡ answer_of a → l' ≡ path_after a l → AreaBooked w c r.units a w'
+      go : (a : PathReply) → Admitted w work (length l) c r a → refuses k ≡ answer_of a → l' ≡ path_after a l → AreaBooked w c r.terms.units a w'
           → FirstApplies admission_rules k × (l' ≡ l) × (w' ≡ w)
       go (refuses j) allowed e path area = let same : j ≡ k = cc in (rw (← same) allowed, path, area)
       go (grants b) allowed e path area = absurd (zero_one cc)
@@ -80,15 +77,15 @@ module _ (w : List ℕ) (work : ℕ) (l : List ℕ) (c : ℕ) (r : Request) (l' 
   -- granted: a path as for a quote, and the circuit is held besides, in an area that is well formed and otherwise untouched
   abbrev CircuitHeld : PathGrant → Type 0
   CircuitHeld b =
-      Same (station w').held (record { number = c; units = r.units; path = b.path } ∷ (station w).held) × WellFormed w' × Untouched w w'
+      Same (station w').held (record { number = c; units = r.terms.units; path = b.path } ∷ (station w).held) × WellFormed w' × Untouched w w'
 
-  pub admission_granted : (g : Numbers) → AdmissionMeans w work l c r (request.Granted g) l' w'
+  pub admission_granted : (g : Numbers) → AdmissionMeans w work l c r (grants g) l' w'
       → (b : PathGrant) × PathGiven admission_rules (net_for w r) r g l l' b
       × CircuitHeld b
   unfolding answer_of path_after
   admission_granted g h = go h.reply h.allowed h.answer h.path h.area
     where
-      go : (a : PathReply) → Admitted w work (length l) c r a → request.Granted g ≡ answer_of a → l' ≡ path_after a l → AreaBooked w c r.units a w'
+      go : (a : PathReply) → Admitted w work (length l) c r a → grants g ≡ answer_of a → l' ≡ path_after a l → AreaBooked w c r.terms.units a w'
           → (b : PathGrant) × PathGiven admission_rules (net_for w r) r g l l' b
           × CircuitHeld b
       go (refuses j) allowed e path area = absurd (zero_one cc)
@@ -99,25 +96,17 @@ module _ (w : List ℕ) (c : ℕ) (w' : List ℕ) where
   abbrev releasing_rules : List Rule
   releasing_rules = (5 when (WellFormed w → ⊥)) ∷ (13 when holds (station w).held c ≡ false) ∷ []
 
-  pub release_refused : (k : ℕ) → ReleaseMeans w c (release.Refused k) w' → FirstApplies releasing_rules k × (w' ≡ w)
-  unfolding release_answer_of books
-  release_refused k h = go h.reply h.allowed h.answer h.area
-    where
-      go : (a : ReleaseReply) → Cleared w c a → release.Refused k ≡ release_answer_of a → AreaCleared w c a w' → FirstApplies releasing_rules k × (w' ≡ w)
-      go (refuses j) allowed e area = let same : j ≡ k = cc in (rw (← same) allowed, area)
-      go (grants _) allowed e area = absurd (zero_one cc)
+  pub release_refused : (k : ℕ) → ReleaseMeans w c (refuses k) w' → FirstApplies releasing_rules k × (w' ≡ w)
+  unfolding books
+  release_refused k h = (h.allowed, h.area)
 
   -- granted: the others are held, in an area that is well formed and otherwise untouched
   abbrev OthersHeld : Type 0
   OthersHeld = Same (station w').held (without c (station w).held) × WellFormed w' × Untouched w w'
 
-  pub release_granted : ReleaseMeans w c release.Released w' → Passes releasing_rules × OthersHeld
-  unfolding release_answer_of books
-  release_granted h = go h.reply h.allowed h.answer h.area
-    where
-      go : (a : ReleaseReply) → Cleared w c a → release.Released ≡ release_answer_of a → AreaCleared w c a w' → Passes releasing_rules × OthersHeld
-      go (refuses j) allowed e area = absurd (zero_one cc)
-      go (grants _) allowed e area = (allowed.0, (area.holds, area.formed, area.untouched))
+  pub release_granted : ReleaseMeans w c (grants tt) w' → Passes releasing_rules × OthersHeld
+  unfolding books
+  release_granted h = (h.allowed.0, (h.area.holds, h.area.formed, h.area.untouched))
 
 -- ---- a listing into the buffer l
 module _ (w l l' : List ℕ) where
@@ -127,10 +116,10 @@ module _ (w l l' : List ℕ) where
   abbrev Allowed : Reply (List ℕ) → Type 0
   Allowed a = Answered (ListsHeld (station w).held) (list_rules w (length l)) a
 
-  pub list_refused : (k : ℕ) → ListMeans w l (Refused k) l' → FirstApplies listing_rules k × (l' ≡ l)
+  pub list_refused : (k : ℕ) → ListMeans w l (refuses k) l' → FirstApplies listing_rules k × (l' ≡ l)
   list_refused k h = go h.reply h.allowed h.answer h.buffer
     where
-      go : (a : Reply (List ℕ)) → Allowed a → Refused k ≡ count_of a → l' ≡ buffer_after a l → FirstApplies listing_rules k × (l' ≡ l)
+      go : (a : Reply (List ℕ)) → Allowed a → refuses k ≡ count_of a → l' ≡ buffer_after a l → FirstApplies listing_rules k × (l' ≡ l)
       go (refuses j) allowed e buffer = let same : j ≡ k = cc in (rw (← same) allowed, buffer)
       go (grants ns) allowed e buffer = absurd (zero_one cc)
 
@@ -143,10 +132,10 @@ module _ (w l l' : List ℕ) where
       × ((c : ℕ) → memb c ns ≡ holds (station w).held c)
       × Distinct ns
 
-  pub list_granted : (h : ℕ) → ListMeans w l (Value h) l' → Passes listing_rules × ((ns : List ℕ) × Written h ns)
+  pub list_granted : (h : ℕ) → ListMeans w l (grants h) l' → Passes listing_rules × ((ns : List ℕ) × Written h ns)
   list_granted h m = go m.reply m.allowed m.answer m.buffer
     where
-      go : (a : Reply (List ℕ)) → Allowed a → Value h ≡ count_of a → l' ≡ buffer_after a l → Passes listing_rules × ((ns : List ℕ) × Written h ns)
+      go : (a : Reply (List ℕ)) → Allowed a → grants h ≡ count_of a → l' ≡ buffer_after a l → Passes listing_rules × ((ns : List ℕ) × Written h ns)
       go (refuses j) allowed e buffer = absurd (zero_one cc)
       go (grants ns) allowed e buffer =
           (allowed.0, (ns, (cc, buffer, allowed.1.count, allowed.1.held, allowed.1.once)))

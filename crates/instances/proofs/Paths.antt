@@ -5,10 +5,12 @@ use mathlib.Core.Path.{◌≡◌, refl, sym, ◌∙◌}
 use mathlib.Core.Bool.{false, true≢false}
 use mathlib.Core.List.{List, [], ◌∷◌}
 use native.Mathlib.Omega.{arith}
-use lib.ListN.{length}
+use lib.ListN.{length, get_or}
 use Rattle.network.specs.Net.{Net, Walk, IsPath, is_pathb}
 use Rattle.network.specs.Problem.{NoPath, Distance}
 use Rattle.network.specs.Words.{net_of}
+use Rattle.network.specs.NodeSet.{member, inserted}
+use Rattle.network.specs.Cut.{no_notes, note_at, noted, follow, cut}
 use Rattle.network.proofs.Paths.{walk_of, path_of_lem, path_test}
 use Rattle.cases.specs.Document01.{three}
 use Rattle.instances.specs.Nets.{net_a, net_b, shut_a, straight}
@@ -51,6 +53,15 @@ round_walk = walk_of net_b 0 3 round refl
 pub round_no_path : IsPath net_b 0 3 round → ⊥
 unfolding net_of
 round_no_path = no_path net_b 0 3 round refl
+
+-- with the loop cut it is one: of the links that leave node 1 the later one counts
+pub round_cut : cut net_b 0 3 round ≡ 3 ∷ 2 ∷ []
+unfolding net_of cut follow noted member inserted
+round_cut = refl
+
+pub later_counts : get_or (note_at 1 0 (note_at 1 2 no_notes)).next 1 0 ≡ 2
+unfolding noted member inserted
+later_counts = refl
 
 -- ---- the distance
 -- is 1 on net A, by link 3

@@ -15,12 +15,13 @@ use Rattle.network.specs.Scale.{scaled, Overqualified}
 use Rattle.network.specs.NodeSet.{member, inserted}
 use Rattle.network.specs.Cut.{noted, follow}
 use Rattle.network.specs.Problem.{Problem, Solves, Best, NoSolution}
-use Rattle.network.specs.Reduce.{problem_one, problem_two, one, two, WithinBounds, Enough, no_path, no_solution, granted, Found}
+use Rattle.network.specs.Reduce.{problem_one, problem_two, one, two, WithinBounds, Enough, no_path, no_solution, granted, problem_number, Found}
 use Rattle.network.proofs.Bounds.{one_distance}
 use Rattle.search.specs.ebf.Table.{cell, cells, filled, initialised, improved, relaxed, offered, column, round, rounds, ebf}
 use Rattle.search.specs.ebf.Trace.{place_back, step_back, traced}
 use Rattle.search.specs.ebf.Solve.{path_in, answer_in, solve_in, solve}
 use Rattle.search.proofs.ebf.Solved.{Solved, solved}
+use Rattle.network.specs.declared.answer.Reduction.TheVariants.{One, Two}
 use Rattle.area.specs.Formed.{LinkFits, links_fit}
 use Rattle.area.proofs.Formed.{links_says}
 use Rattle.area.specs.Load.{table_of}
@@ -120,6 +121,13 @@ unfolding net_of Overqualified
 m2_not_enough (inl h) = omega (arith, h.1)
 m2_not_enough (inr h) = omega (arith, h.1)
 
+-- ---- document 01's numbers of the two problems
+pub numbers_lem : (problem_number One ≡ 1) × (problem_number Two ≡ 2)
+numbers_lem = (refl, refl)
+
+pub numbers_differ : problem_number Two ≡ problem_number One → ⊥
+numbers_differ e = omega (arith, e)
+
 -- ---- within the bounds
 pub three_within : WithinBounds net_a m3 three
 unfolding net_of
@@ -136,10 +144,10 @@ found_none = Found.none shut_no_path
 pub found_unsolved : Found net_a m1 no_solution
 found_unsolved = Found.unsolved 1 distance_one m1_none_one m1_none_two
 
-pub found_by_one : Found net_a m3 (granted 1 three)
+pub found_by_one : Found net_a m3 (granted One three)
 found_by_one = Found.by_one 1 three distance_one m3_best
 
-pub found_by_two : Found net_a m4 (granted 2 three)
+pub found_by_two : Found net_a m4 (granted Two three)
 found_by_two = Found.by_two 1 three distance_one m4_none_one m4_best_two
 
 pub not_found : Found net_a m3 no_solution → ⊥

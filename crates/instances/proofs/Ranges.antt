@@ -6,39 +6,40 @@ use mathlib.Core.Bool.{true, false}
 use native.Mathlib.Omega.{arith}
 use Rattle.network.specs.Limits.{least_units, most_units, least_bound, most_delay_bound, most_cost_bound, least_coefficient, most_coefficient}
 use Rattle.network.specs.Ranges.{in_range, TermsFit, terms_fit}
+use Rattle.network.specs.Reduce.{asks}
 use Rattle.network.proofs.Ranges.{terms_says}
 
 pub in_range_lem : (in_range 2 32 2 ≡ true) × (in_range 2 32 32 ≡ true) × (in_range 2 32 1 ≡ false) × (in_range 2 32 33 ≡ false)
 in_range_lem = (refl, refl, refl, refl)
 
 -- M3's
-pub m3_terms : TermsFit 1 8 20 8
+pub m3_terms : TermsFit (asks 1 8 20 8)
 unfolding terms_fit
-m3_terms = terms_says 1 8 20 8 refl
+m3_terms = terms_says (asks 1 8 20 8) refl
 
-pub least_terms : TermsFit least_units least_bound least_bound least_coefficient
+pub least_terms : TermsFit (asks least_units least_bound least_bound least_coefficient)
 unfolding terms_fit
-least_terms = terms_says least_units least_bound least_bound least_coefficient refl
+least_terms = terms_says (asks least_units least_bound least_bound least_coefficient) refl
 
-pub most_terms : TermsFit most_units most_delay_bound most_cost_bound most_coefficient
+pub most_terms : TermsFit (asks most_units most_delay_bound most_cost_bound most_coefficient)
 unfolding terms_fit
-most_terms = terms_says most_units most_delay_bound most_cost_bound most_coefficient refl
+most_terms = terms_says (asks most_units most_delay_bound most_cost_bound most_coefficient) refl
 
 -- the others are M3's
-pub no_units : TermsFit (least_units - 1) 8 20 8 → ⊥
+pub no_units : TermsFit (asks (least_units - 1) 8 20 8) → ⊥
 no_units h = omega (arith, h.units_least)
 
-pub many_units : TermsFit (most_units + 1) 8 20 8 → ⊥
+pub many_units : TermsFit (asks (most_units + 1) 8 20 8) → ⊥
 many_units h = omega (arith, h.units_most)
 
-pub delay_bound_over : TermsFit 1 (most_delay_bound + 1) 20 8 → ⊥
+pub delay_bound_over : TermsFit (asks 1 (most_delay_bound + 1) 20 8) → ⊥
 delay_bound_over h = omega (arith, h.delay_most)
 
-pub no_cost_bound : TermsFit 1 8 (least_bound - 1) 8 → ⊥
+pub no_cost_bound : TermsFit (asks 1 8 (least_bound - 1) 8) → ⊥
 no_cost_bound h = omega (arith, h.cost_least)
 
-pub cost_bound_over : TermsFit 1 8 (most_cost_bound + 1) 8 → ⊥
+pub cost_bound_over : TermsFit (asks 1 8 (most_cost_bound + 1) 8) → ⊥
 cost_bound_over h = omega (arith, h.cost_most)
 
-pub coefficient_over : TermsFit 1 8 20 (most_coefficient + 1) → ⊥
+pub coefficient_over : TermsFit (asks 1 8 20 (most_coefficient + 1)) → ⊥
 coefficient_over h = omega (arith, h.coefficient_most)

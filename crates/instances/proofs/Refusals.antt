@@ -1,21 +1,24 @@
--- The first rule that applies, and what a call may then reply; what a quote and an admission on net A mean, and what they
--- do not; a listing on net A likewise.
+-- The first rule that applies, and what a call may then reply; the numbers of the code's refusals; what a quote and an
+-- admission on net A mean, and what they do not; a listing on net A likewise.
 -- Assumes nothing.
-use Prim.Native.Nat.{ℕ}
-use mathlib.Core.Path.{◌≡◌, refl, sym, subst}
-use mathlib.Core.List.{List, [], ◌∷◌, ◌++◌}
+use Prim.Native.Nat.{ℕ, ◌-◌}
+use mathlib.Core.Path.{◌≡◌, ◌∙◌, ap, refl, sym, subst}
+use mathlib.Core.List.{List, [], ◌∷◌, ◌++◌, map}
 use mathlib.Core.Logic.{inl, inr}
 use native.Mathlib.Omega.{arith}
-use lib.ListN.{replicate}
+use lib.ListN.{replicate, get_or}
+use Rattle.std.specs.Prelude.{Ok, Err}
+use Rattle.network.specs.declared.answer.NoRoute.TheVariants as route
+use Rattle.network.specs.declared.answer.Reduction.TheVariants.{One}
 use Rattle.area.specs.Station.{station, table_in, circuit_of}
 use Rattle.area.specs.Order.{alike}
-use Rattle.area.specs.Refusals.{Rule, ◌when◌, FirstApplies, Passes, refuses, grants, Answered}
+use Rattle.area.specs.Refusals.{Rule, ◌when◌, FirstApplies, Passes, number, numbered, refusal_of, refuses, grants, Answered}
+use Rattle.area.specs.declared.refusal.Refusal.{Refusal}
+use Rattle.area.specs.declared.refusal.Refusal.TheVariants as why
 use Rattle.area.specs.Reads.{list_answer, listed, ListMeans}
-use Rattle.area.specs.declared.ValueAnswer.TheVariants as value
 use Rattle.area.proofs.Order.{count_same}
 use Rattle.area.proofs.Refusals.{one_first, none_first}
 use Rattle.area.proofs.ReadCases.{listed_as}
-use Rattle.rules.specs.declared.RequestAnswer.TheVariants.{Refused, Granted}
 use Rattle.rules.specs.Replies.{answer_of, path_after, granting}
 use Rattle.rules.specs.Allowed.{search_rules}
 use Rattle.rules.specs.Meaning.{quote_rules, net_for, Quoted, Rebooked, QuoteMeans}
@@ -56,15 +59,71 @@ granted_three = ((λ h. h, tt), refl)
 pub not_four : Answered (λ (n : ℕ). n ≡ 3) ((6 when ⊥) ∷ []) (grants 4) → ⊥
 not_four h = omega (arith, h.1)
 
+-- ---- document 01's numbers of the code's refusals: 1 to 21, each once
+abbrev refusals : List Refusal
+refusals =
+    why.AreaShort ∷ why.NodeCount ∷ why.WordCount ∷ why.LinkRange ∷ why.NotWellFormed ∷ why.WorkShort ∷ why.PathShort
+    ∷ why.RequestRange ∷ why.NoPath ∷ why.NoSolution ∷ why.CircuitNumber ∷ why.CircuitsFull ∷ why.NotHeld ∷ why.NumbersShort
+    ∷ why.NoSuchLink ∷ why.NoSuchClass ∷ why.NotSigned ∷ why.FileLength ∷ why.TableShort ∷ why.ClassWords ∷ why.ClassRange ∷ []
+
+pub numbers : map number refusals
+    ≡ 1 ∷ 2 ∷ 3 ∷ 4 ∷ 5 ∷ 6 ∷ 7 ∷ 8 ∷ 9 ∷ 10 ∷ 11 ∷ 12 ∷ 13 ∷ 14 ∷ 15 ∷ 16 ∷ 17 ∷ 18 ∷ 19 ∷ 20 ∷ 21 ∷ []
+numbers = refl
+
+-- so the number tells the refusal: no two have one number
+abbrev with_number : ℕ → Refusal
+with_number k = get_or refusals (k - 1) why.AreaShort
+
+again : (e : Refusal) → with_number (number e) ≡ e
+again why.AreaShort = refl
+again why.NodeCount = refl
+again why.WordCount = refl
+again why.LinkRange = refl
+again why.NotWellFormed = refl
+again why.WorkShort = refl
+again why.PathShort = refl
+again why.RequestRange = refl
+again why.NoPath = refl
+again why.NoSolution = refl
+again why.CircuitNumber = refl
+again why.CircuitsFull = refl
+again why.NotHeld = refl
+again why.NumbersShort = refl
+again why.NoSuchLink = refl
+again why.NoSuchClass = refl
+again why.NotSigned = refl
+again why.FileLength = refl
+again why.TableShort = refl
+again why.ClassWords = refl
+again why.ClassRange = refl
+
+pub number_tells : (e f : Refusal) → number e ≡ number f → e ≡ f
+number_tells e f same = sym (again e) ∙ ap with_number same ∙ again f
+
+-- a search that finds no path is refused with 9, and one that finds no solution with 10, and not with 9
+pub route_refused : (numbered {A = ℕ} (Err (refusal_of route.NoPath)) ≡ refuses 9)
+    × (numbered {A = ℕ} (Err (refusal_of route.NoSolution)) ≡ refuses 10)
+route_refused = (refl, refl)
+
+pub solution_not_nine : numbered {A = ℕ} (Err (refusal_of route.NoSolution)) ≡ refuses 9 → ⊥
+solution_not_nine e = let same : ◌≡◌ {A = ℕ} 10 9 = cc in omega (arith, same)
+
+-- what is granted is no refusal
+pub given : numbered {A = ℕ} (Ok 3) ≡ grants 3
+given = refl
+
+pub given_not_refused : (k : ℕ) → numbered {A = ℕ} (Ok 3) ≡ refuses k → ⊥
+given_not_refused k e = cc
+
 -- ---- what a quote of M3 on net A means: granted with its path, and not refused
 abbrev path_left : List ℕ
 path_left = three ++ replicate 28 0
 
-pub m3_means : QuoteMeans fresh_a 16384 (path 0) m3 (Granted (record { problem = 1; delay = 6; cost = 15; links = 3 })) path_left
+pub m3_means : QuoteMeans fresh_a 16384 (path 0) m3 (grants (record { problem = One; delay = 6; cost = 15; links = 3 })) path_left
 unfolding answer_of path_after
-m3_means = (quoted_as fresh_a 16384 (path 0) m3 (granting 1 6 15 three) (sym quotes.by_one) _ refl path_left refl).1.1
+m3_means = (quoted_as fresh_a 16384 (path 0) m3 (granting One 6 15 three) (sym quotes.by_one) _ refl path_left refl).1.1
 
-pub m3_not_refused : (k : ℕ) (l' : List ℕ) → QuoteMeans fresh_a 16384 (path 0) m3 (Refused k) l' → ⊥
+pub m3_not_refused : (k : ℕ) (l' : List ℕ) → QuoteMeans fresh_a 16384 (path 0) m3 (refuses k) l' → ⊥
 m3_not_refused k l' h =
     none_first (quote_rules fresh_a 16384 31 m3 ++ search_rules (net_for fresh_a m3) m3) k
     (subst (Quoted fresh_a 16384 31 m3) quotes.by_one (quote_means fresh_a 16384 31 m3)).0
@@ -80,11 +139,11 @@ unfolding held_a fresh_a station table_in circuit_of
 not_rebooked h = omega (arith, count_same h.holds)
 
 -- ---- a listing of circuits 7 and 8: two numbers, and not one
-pub two_listed : ListMeans (two_a 8 10) (1 ∷ 1 ∷ 1 ∷ []) (value.Value 2) (7 ∷ 8 ∷ 1 ∷ [])
+pub two_listed : ListMeans (two_a 8 10) (1 ∷ 1 ∷ 1 ∷ []) (grants 2) (7 ∷ 8 ∷ 1 ∷ [])
 unfolding list_answer listed two_a table_in circuit_of
-two_listed = (listed_as (two_a 8 10) (1 ∷ 1 ∷ 1 ∷ []) (value.Value 2) refl (7 ∷ 8 ∷ 1 ∷ []) refl).1.1
+two_listed = (listed_as (two_a 8 10) (1 ∷ 1 ∷ 1 ∷ []) (grants 2) refl (7 ∷ 8 ∷ 1 ∷ []) refl).1.1
 
-pub one_unlisted : (l' : List ℕ) → ListMeans (two_a 8 10) (1 ∷ 1 ∷ 1 ∷ []) (value.Value 1) l' → ⊥
+pub one_unlisted : (l' : List ℕ) → ListMeans (two_a 8 10) (1 ∷ 1 ∷ 1 ∷ []) (grants 1) l' → ⊥
 unfolding two_a station table_in circuit_of
 one_unlisted l' h =
     let said = (meanings.list_granted (two_a 8 10) (1 ∷ 1 ∷ 1 ∷ []) l' 1 h).1.1 in omega (arith, said.0, said.2)

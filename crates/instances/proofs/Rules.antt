@@ -1,5 +1,6 @@
--- The rules that the demands are said with: requests and circuit numbers that fit and some that do not, calls that the
--- ledger refuses and calls that it does not, and what a granted path must be.
+-- The rules that the demands are said with: requests and circuit numbers that fit and some that do not, answers that a call
+-- may give and some that it may not, calls that the ledger refuses and calls that it does not, and what a granted path
+-- must be.
 -- Assumes nothing.
 use Prim.Native.Nat.{ℕ}
 use mathlib.Core.Path.{◌≡◌, refl, sym, ◌∙◌}
@@ -11,10 +12,12 @@ use Rattle.network.specs.declared.Request.{Request}
 use Rattle.network.specs.Reduce.{no_solution, asking}
 use Rattle.network.proofs.Bounds.{one_distance, found_enough}
 use Rattle.search.specs.Result.{GrantedByOne, GrantedByTwo}
+use Rattle.network.specs.declared.answer.Reduction.{Reduction}
+use Rattle.network.specs.declared.answer.Reduction.TheVariants.{One, Two}
 use Rattle.area.specs.Station.{station, table_in, circuit_of}
 use Rattle.area.specs.Books.{books}
 use Rattle.rules.specs.Requests.{RequestFits, request_fits}
-use Rattle.area.specs.Refusals.{Passes, refuses}
+use Rattle.area.specs.Refusals.{Passes, refuses, grants}
 use Rattle.rules.specs.Replies.{PathGrant}
 use Rattle.rules.specs.Allowed.{NumberFits}
 use Rattle.rules.specs.Calls.{number_fits}
@@ -23,7 +26,7 @@ use Rattle.rules.proofs.Facts.{granted_not_refused}
 use Rattle.rules.proofs.Meaning.{request_says, number_says}
 use Rattle.ledger.specs.Entries.{quoting, opened, checks, Refuses}
 use Rattle.ledger.specs.Sentences.{Solvable, Overqualifies}
-use Rattle.ledger.specs.Demand.{ThirdDemand, GrantedPath}
+use Rattle.ledger.specs.Demand.{Decided, ThirdDemand, GrantedPath}
 use Rattle.ledger.proofs.Demands.{third_demand, any_quote}
 use Rattle.cases.specs.Document01.{blank, links_a, m3, three}
 use Rattle.instances.specs.Nets.{net_a, m1}
@@ -58,6 +61,22 @@ passes = (λ h. omega (arith, h), (λ h. omega (arith, h), (λ h. h request_fits
 
 pub not_passes : Passes (checks (books (opened 4 links_a)) (quoting 16383 31 m3)) → ⊥
 not_passes h = h.0 (omega arith)
+
+-- ---- an answer that a call may give: a grant, or a refusal with one of its numbers that keeps what was lent
+pub grant_decided : Decided {A = ℕ} (5 ∷ 13 ∷ []) ⊥ (grants 3)
+grant_decided = inl (3, refl)
+
+pub refusal_decided : Decided {A = ℕ} (5 ∷ 13 ∷ []) (Unit {0}) (refuses 13)
+refusal_decided = inr (13, refl, refl, tt)
+
+-- not a refusal with another number, nor one that keeps nothing
+pub six_undecided : Decided {A = ℕ} (5 ∷ 13 ∷ []) (Unit {0}) (refuses 6) → ⊥
+six_undecided (inl (_, e)) = cc
+six_undecided (inr (k, known, e, _)) = let same : 6 ≡ k = cc in true≢false (sym (rw (← same) at known))
+
+pub unkept_undecided : Decided {A = ℕ} (5 ∷ 13 ∷ []) ⊥ (refuses 13) → ⊥
+unkept_undecided (inl (_, e)) = cc
+unkept_undecided (inr (k, known, e, kept)) = kept
 
 -- ---- a usable path that solves a problem, and one that is overqualified
 pub solvable : Solvable net_a m3
@@ -101,28 +120,28 @@ unfolding fresh_a
 refuses_none number h = granted_not_refused _ number (sym (((demand m3).refusals.0 number).1 h) ∙ quotes.by_one)
 
 -- ---- the path granted for M3, with its problem and totals
-abbrev granted : ℕ → ℕ → ℕ → PathGrant
+abbrev granted : Reduction → ℕ → ℕ → PathGrant
 granted which d c = record { problem = which; delay = d; cost = c; path = three }
 
-pub granted_path : GrantedPath (net_for fresh_a m3) m3 (granted 1 6 15)
-granted_path = any_quote fresh_a 16384 31 m3 (granted 1 6 15) quotes.by_one
+pub granted_path : GrantedPath (net_for fresh_a m3) m3 (granted One 6 15)
+granted_path = any_quote fresh_a 16384 31 m3 (granted One 6 15) quotes.by_one
 
 -- not with another delay or cost
-pub delay_invented : GrantedPath (net_for fresh_a m3) m3 (granted 1 7 15) → ⊥
+pub delay_invented : GrantedPath (net_for fresh_a m3) m3 (granted One 7 15) → ⊥
 delay_invented h = omega (arith, h.delay, granted_path.delay)
 
-pub cost_invented : GrantedPath (net_for fresh_a m3) m3 (granted 1 6 16) → ⊥
+pub cost_invented : GrantedPath (net_for fresh_a m3) m3 (granted One 6 16) → ⊥
 cost_invented h = omega (arith, h.cost, granted_path.cost)
 
 -- nor by problem two, which counts only where problem one has no solution
-abbrev By : ℕ → Type 0
-By which = ((which ≡ 1) × GrantedByOne (net_for fresh_a m3) m3 three) ⊎ ((which ≡ 2) × GrantedByTwo (net_for fresh_a m3) m3 three)
+abbrev By : Reduction → Type 0
+By which = ((which ≡ One) × GrantedByOne (net_for fresh_a m3) m3 three) ⊎ ((which ≡ Two) × GrantedByTwo (net_for fresh_a m3) m3 three)
 
-pub problem_wrong : GrantedPath (net_for fresh_a m3) m3 (granted 2 6 15) → ⊥
+pub problem_wrong : GrantedPath (net_for fresh_a m3) m3 (granted Two 6 15) → ⊥
 problem_wrong h = go h.least granted_path.least
   where
-    go : By 2 → By 1 → ⊥
-    go (inl (e, _)) first = omega (arith, e)
+    go : By Two → By One → ⊥
+    go (inl (e, _)) first = cc
     go (inr (_, (k, far, none, best))) (inl (_, (k', far', best'))) =
         let same : k' ≡ k = one_distance (net_for fresh_a m3) 0 3 k' k far' far in none three (rw same at best'.solves)
-    go (inr _) (inr (e, _)) = omega (arith, e)
+    go (inr _) (inr (e, _)) = cc

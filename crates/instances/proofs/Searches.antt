@@ -1,32 +1,39 @@
--- What a search relies on can be met, and is not always met; what its stated result says of net A; networks that a search cannot tell apart, and some that it
--- can; a table with every link of a column settled, and one without.
+-- What a search relies on can be met, and is not always met; what its stated result says of net A; the distance and the
+-- answer as the code has them; networks that a search cannot tell apart, and some that it can; a table with every link of
+-- a column settled, and one without.
 -- Assumes nothing.
 use Prim.Native.Nat.{ℕ, zero, suc, ◌+◌, ◌≤◌, ◌<◌}
 use mathlib.Core.Path.{◌≡◌, refl, sym, ap}
-use mathlib.Core.Bool.{true≢false}
+use mathlib.Core.Bool.{true, true≢false}
 use mathlib.Core.List.{List, [], ◌∷◌}
-use mathlib.Core.Logic.{◌⊎◌, inl, inr}
 use native.Mathlib.Omega.{arith}
 use borrow.Author.Tests.{leb-true}
 use lib.Dec.{leb}
 use lib.ListN.{replicate, length-replicate}
-use Rattle.network.specs.Loops.{iter, every}
+use Rattle.std.specs.Prelude.{Some, None, Ok, Err}
+use Rattle.network.specs.Loops.{iter, every, first}
 use Rattle.network.proofs.Loops.{every_at}
 use Rattle.network.specs.Net.{Net, Ends}
-use Rattle.network.specs.Words.{net_of, LinkFields}
+use Rattle.network.specs.Words.{net_of, LinkFields, LinkTable}
+use Rattle.network.specs.NodeSet.{member, inserted}
 use Rattle.network.specs.Scale.{scaled}
 use Rattle.network.specs.Problem.{Problem}
 use Rattle.network.specs.Reduce.{Outcome, no_path, no_solution, granted, problem_one, one, asking}
 use Rattle.network.proofs.Bounds.{one_distance}
 use Rattle.search.specs.ebf.Table.{cell, cells, number, filled, initialised, improved, relaxed, offered, column, round, rounds, ebf}
 use Rattle.search.specs.ebf.Settled.{SettledColumn}
-use Rattle.search.specs.Result.{Ready, Searchable, Unsolved, GrantedByOne, GrantedByTwo, Result, Alike}
+use Rattle.search.specs.Distance.{spread, layer, distance, distance_if_any}
+use Rattle.search.specs.Result.{Ready, Searchable, Unsolved, GrantedByOne, GrantedByTwo, Result, Alike, search_answer_of}
+use Rattle.network.specs.declared.Grant.{Grant}
+use Rattle.network.specs.declared.answer.NoRoute.TheVariants as why
 use Rattle.search.proofs.Result.{ready_searchable}
 use Rattle.cases.specs.Document01.{links_a, m3, three}
 use Rattle.instances.specs.Nets.{net_a, shut_a, straight, m1, m4}
 use Rattle.instances.proofs.Ranges.{m3_terms}
 use Rattle.instances.proofs.Paths.{three_path, distance_one, shut_no_path}
 use Rattle.instances.proofs.Problems.{links_fit_lem, m3_solves, m3_enough, m1_none_one, m1_none_two, m4_none_one, straight_over}
+use Rattle.network.specs.declared.answer.Reduction.{Reduction}
+use Rattle.network.specs.declared.answer.Reduction.TheVariants.{One, Two}
 
 -- ---- the ranges and lengths
 pub link_words_lem : LinkFields 4 4 links_a
@@ -43,17 +50,22 @@ link_words_lem =
 pub link_words_high : LinkFields 3 4 links_a → ⊥
 link_words_high h = let high = h.to 2 (omega arith) in omega (arith, high)
 
+-- with the counts of nodes and links in their ranges it is a link table, and not of 33 nodes
+pub link_table_lem : LinkTable 4 4 links_a
+link_table_lem = record { nodes_some = omega arith; nodes_most = omega arith; links_most = omega arith; words = link_words_lem }
+
+pub link_table_large : LinkTable 33 4 links_a → ⊥
+link_table_large h = omega (arith, h.nodes_most)
+
 -- the ends of net A's links are nodes of four (`ends` of Problems.antt), and not of three
-pub ends_high : Ends (net_of 3 4 links_a (replicate 4 1)) → ⊥
+pub ends_high : Ends (net_of 3 4 links_a (replicate 4 true)) → ⊥
 unfolding net_of
 ends_high h = let high = h.heads 2 (omega arith) in omega (arith, high)
 
 -- M3 on net A, with work memory and path buffer of the lengths asked for
-pub ready : Ready 4 4 links_a (replicate 4 1) (replicate 16384 0) (replicate 31 0) m3
+pub ready : Ready 4 (replicate 16384 0) (replicate 31 0) m3
 ready =
     record {
-      table = record { nodes_some = omega arith; nodes_most = omega arith; links_most = omega arith; words = link_words_lem };
-      flags = omega arith;
       memory = omega (arith, length-replicate {A = ℕ} 16384 0);
       buffer = omega arith;
       source = omega arith;
@@ -63,12 +75,12 @@ ready =
     }
 
 -- not with a word less of work memory
-pub unready : Ready 4 4 links_a (replicate 4 1) (replicate 16383 0) (replicate 31 0) m3 → ⊥
+pub unready : Ready 4 (replicate 16383 0) (replicate 31 0) m3 → ⊥
 unready h = let long = h.memory in omega (arith, long, length-replicate {A = ℕ} 16383 0)
 
 pub searchable : Searchable net_a m3
 unfolding net_of
-searchable = ready_searchable 4 4 links_a (replicate 4 1) (replicate 16384 0) (replicate 31 0) m3 ready
+searchable = ready_searchable 4 4 links_a (replicate 4 true) (replicate 16384 0) (replicate 31 0) m3 link_table_lem ready
 
 -- not from a node to itself
 pub unsearchable : Searchable net_a (asking 0 0 1 8 20 8) → ⊥
@@ -93,42 +105,56 @@ module _ (o : Outcome) where
       unsolved : Unsolved net_a m3 → ⊥
       unsolved (k, far, none, nor) = let same : k ≡ 1 = one_distance net_a 0 3 k 1 far distance_one in (rw same at none) three m3_solves
 
-  -- M4 is not granted by problem one, M3 not by problem two, and neither by another
-  pub m4_not_one : Result net_a m4 o → (p : List ℕ) → o ≡ granted 1 p → ⊥
+  -- M4 is not granted by problem one, and M3 not by problem two
+  pub m4_not_one : Result net_a m4 o → (p : List ℕ) → o ≡ granted One p → ⊥
   m4_not_one h p e = solved (h.by_one p e)
     where
       solved : GrantedByOne net_a m4 p → ⊥
       solved (k, far, best) = let same : k ≡ 1 = one_distance net_a 0 3 k 1 far distance_one in m4_none_one p (rw same at best.solves)
 
-  pub m3_not_two : Result net_a m3 o → (p : List ℕ) → o ≡ granted 2 p → ⊥
+  pub m3_not_two : Result net_a m3 o → (p : List ℕ) → o ≡ granted Two p → ⊥
   m3_not_two h p e = unsolved (h.by_two p e)
     where
       unsolved : GrantedByTwo net_a m3 p → ⊥
       unsolved (k, far, none, best) = let same : k ≡ 1 = one_distance net_a 0 3 k 1 far distance_one in (rw same at none) three m3_solves
 
-  pub no_third : Result net_a m3 o → (p : List ℕ) → o ≡ granted 3 p → ⊥
-  no_third h p e = third 3 refl (h.no_other 3 p e)
-    where
-      third : (which : ℕ) → which ≡ 3 → (which ≡ 1) ⊎ (which ≡ 2) → ⊥
-      third which is (inl f) = omega (arith, is, f)
-      third which is (inr f) = omega (arith, is, f)
-
   -- M3 is granted, since its path is overqualified, and not by link 3, which is over the bound of delay
-  pub m3_granted : Result net_a m3 o → (which : ℕ) × (p : List ℕ) × (o ≡ granted which p)
+  pub m3_granted : Result net_a m3 o → (which : Reduction) × (p : List ℕ) × (o ≡ granted which p)
   m3_granted h = h.enough 1 distance_one three three_path m3_enough
 
-  pub m3_not_straight : Result net_a m3 o → (which : ℕ) → o ≡ granted which straight → ⊥
+  pub m3_not_straight : Result net_a m3 o → (which : Reduction) → o ≡ granted which straight → ⊥
   m3_not_straight h which e = straight_over (h.within which straight e)
+
+-- ---- the distance as the code finds it: 1 on net A, and none where no link is usable
+pub distance_found : (distance_if_any net_a 0 3 ≡ Some 1) × (distance_if_any shut_a 0 3 ≡ None)
+unfolding net_of distance_if_any distance layer spread member inserted iter first
+distance_found = (refl, refl)
+
+-- ---- the code's answer to what was found: a refusal, or a grant with the path's own sums, and not with another delay
+abbrev by_three : ℕ → Grant
+by_three d = record { problem = One; delay = d; cost = 15; links = 3 }
+
+pub answers : (search_answer_of net_a no_path ≡ Err why.NoPath)
+    × (search_answer_of net_a no_solution ≡ Err why.NoSolution)
+    × (search_answer_of net_a (granted One three) ≡ Ok (by_three 6))
+unfolding net_of search_answer_of
+answers = (refl, refl, refl)
+
+pub delay_invented : search_answer_of net_a (granted One three) ≡ Ok (by_three 7) → ⊥
+delay_invented e =
+    let same : by_three 6 ≡ by_three 7 = cc answers.2 in
+    let delay : ◌≡◌ {A = ℕ} 6 7 = ap (λ (g : Grant). g.delay) same in
+    omega (arith, delay)
 
 -- ---- networks alike
 -- net A with other capacities, a word and a flag more
 abbrev pub other : Net
 unfolding net_of
 other =
-    net_of 4 4 (0 ∷ 1 ∷ 2 ∷ 5 ∷ 9 ∷ 1 ∷ 2 ∷ 2 ∷ 5 ∷ 9 ∷ 2 ∷ 3 ∷ 2 ∷ 5 ∷ 9 ∷ 0 ∷ 3 ∷ 9 ∷ 1 ∷ 9 ∷ 7 ∷ []) (replicate 5 1)
+    net_of 4 4 (0 ∷ 1 ∷ 2 ∷ 5 ∷ 9 ∷ 1 ∷ 2 ∷ 2 ∷ 5 ∷ 9 ∷ 2 ∷ 3 ∷ 2 ∷ 5 ∷ 9 ∷ 0 ∷ 3 ∷ 9 ∷ 1 ∷ 9 ∷ 7 ∷ []) (replicate 5 true)
 
 -- what agrees at each link of four
-four : {A : Type 0} (f h : ℕ → A) → f 0 ≡ h 0 → f 1 ≡ h 1 → f 2 ≡ h 2 → f 3 ≡ h 3 → (i : ℕ) → i < 4 → f i ≡ h i
+pub four : {A : Type 0} (f h : ℕ → A) → f 0 ≡ h 0 → f 1 ≡ h 1 → f 2 ≡ h 2 → f 3 ≡ h 3 → (i : ℕ) → i < 4 → f i ≡ h i
 four f h a b c d zero low = a
 four f h a b c d (suc zero) low = b
 four f h a b c d (suc (suc zero)) low = c

@@ -3,9 +3,8 @@
 use mathlib.Core.Path.{◌≡◌, refl}
 use mathlib.Core.List.{[], ◌∷◌}
 use lib.ListN.{replicate}
+use Rattle.area.specs.Refusals.{refuses, grants}
 use Rattle.area.specs.Station.{table_in, circuit_of}
-use Rattle.area.specs.declared.Loading.TheVariants as loading
-use Rattle.area.specs.declared.ValueAnswer.TheVariants.{Refused, Value}
 use Rattle.area.specs.Load.{load_answer, area_loaded}
 use Rattle.area.specs.Reads.{list_answer, listed, free_answer}
 use Rattle.cases.specs.Document01.{blank, links_a}
@@ -14,28 +13,28 @@ use Rattle.instances.specs.Areas.{held_a, two_a}
 -- an area that is a word too short, one node and 33, words that are no whole link and words of 257 links, a link to a
 -- node that is not there; net A is loaded, and a refused load changes nothing
 pub record Loads : Type 0 where
-  pub one : load_answer (replicate 3458 0) 4 links_a ≡ loading.Refused 1
-  pub low_two : load_answer blank 1 links_a ≡ loading.Refused 2
-  pub high_two : load_answer blank 33 links_a ≡ loading.Refused 2
-  pub part_three : load_answer blank 4 (0 ∷ []) ≡ loading.Refused 3
-  pub many_three : load_answer blank 4 (replicate 1285 0) ≡ loading.Refused 3
-  pub four : load_answer blank 3 links_a ≡ loading.Refused 4
-  pub loaded : load_answer blank 4 links_a ≡ loading.Loaded
+  pub one : load_answer (replicate 3458 0) 4 links_a ≡ refuses 1
+  pub low_two : load_answer blank 1 links_a ≡ refuses 2
+  pub high_two : load_answer blank 33 links_a ≡ refuses 2
+  pub part_three : load_answer blank 4 (0 ∷ []) ≡ refuses 3
+  pub many_three : load_answer blank 4 (replicate 1285 0) ≡ refuses 3
+  pub four : load_answer blank 3 links_a ≡ refuses 4
+  pub loaded : load_answer blank 4 links_a ≡ grants tt
   pub unchanged : area_loaded blank 3 links_a ≡ blank
 
 -- an area that is not well formed, a buffer that is too short; the numbers of two circuits, and a word that is kept
 pub record Listings : Type 0 where
-  pub five : list_answer (two_a 7 10) 64 ≡ Refused 5
-  pub fourteen : list_answer (two_a 8 10) 1 ≡ Refused 14
-  pub listed_two : list_answer (two_a 8 10) 2 ≡ Value 2
+  pub five : list_answer (two_a 7 10) 64 ≡ refuses 5
+  pub fourteen : list_answer (two_a 8 10) 1 ≡ refuses 14
+  pub listed_two : list_answer (two_a 8 10) 2 ≡ grants 2
   pub written : listed (two_a 8 10) (1 ∷ 1 ∷ 1 ∷ []) ≡ 7 ∷ 8 ∷ 1 ∷ []
 
 -- an area that is not well formed, a link that is not there; link 2 has what circuit 7 leaves, and link 3 has all
 pub record FreeUnits : Type 0 where
-  pub five : free_answer (two_a 7 10) 0 ≡ Refused 5
-  pub fifteen : free_answer held_a 4 ≡ Refused 15
-  pub some : free_answer held_a 2 ≡ Value 6
-  pub all : free_answer held_a 3 ≡ Value 10
+  pub five : free_answer (two_a 7 10) 0 ≡ refuses 5
+  pub fifteen : free_answer held_a 4 ≡ refuses 15
+  pub some : free_answer held_a 2 ≡ grants 6
+  pub all : free_answer held_a 3 ≡ grants 10
 
 pub loads : Loads
 unfolding load_answer area_loaded

@@ -3,9 +3,10 @@
 -- Assumes nothing.
 use Rattle.std.specs.Prelude.{ℕ, List, [], ◌∷◌, replicate}
 use Rattle.network.specs.declared.Request.{Request}
+use Rattle.network.specs.declared.answer.Reduction.{Reduction}
+use Rattle.network.specs.declared.answer.Reduction.TheVariants.{One, Two}
 use Rattle.network.specs.Reduce.{asking}
-use Rattle.rules.specs.declared.RequestAnswer.TheVariants as request
-use Rattle.rules.specs.declared.ReleaseAnswer.TheVariants as release
+use Rattle.area.specs.Refusals.{refuses, grants}
 use Rattle.ledger.specs.Entries.{quoting, admitting, releasing}
 use Rattle.ledger.specs.History.{Lending, Given, of_request, of_release}
 use Rattle.cases.specs.Document01.{asks, m3, three}
@@ -41,24 +42,24 @@ calls =
 
 -- what they answer: a quote or an admission a refusal or a path, a release a refusal or that the circuit went
 abbrev refused : ℕ → Given
-refused k = of_request (request.Refused k) []
+refused k = of_request (refuses k) []
 
-abbrev by_three : ℕ → Given
-by_three problem = of_request (request.Granted (record { problem = problem; delay = 6; cost = 15; links = 3 })) three
+abbrev by_three : Reduction → Given
+by_three problem = of_request (grants (record { problem = problem; delay = 6; cost = 15; links = 3 })) three
 
 abbrev pub expected : List Given
 expected =
     refused 6
     ∷ refused 7
     ∷ refused 8
-    ∷ by_three 1
+    ∷ by_three One
     ∷ refused 11
     ∷ refused 9
     ∷ refused 10
-    ∷ by_three 2
-    ∷ of_release (release.Refused 13)
-    ∷ of_release release.Released
-    ∷ by_three 1
+    ∷ by_three Two
+    ∷ of_release (refuses 13)
+    ∷ of_release (grants tt)
+    ∷ by_three One
     ∷ []
 
 -- the calls that remain, lent other words

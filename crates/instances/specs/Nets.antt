@@ -1,7 +1,7 @@
 -- What the instances are about: document 01's net A and net B as networks, and requests on net A beside those that
 -- `cases` names.
 -- Assumes nothing.
-use Rattle.std.specs.Prelude.{ℕ, List, [], ◌∷◌, replicate}
+use Rattle.std.specs.Prelude.{ℕ, true, List, [], ◌∷◌, replicate}
 use Rattle.network.specs.Net.{Net}
 use Rattle.network.specs.Words.{net_of}
 use Rattle.network.specs.declared.Request.{Request}
@@ -11,13 +11,13 @@ use Rattle.cases.specs.Document01.{links_a, links_b, asks}
 -- every link is usable
 abbrev pub net_a : Net
 unfolding net_of
-net_a = net_of 4 4 links_a (replicate 4 1)
+net_a = net_of 4 4 links_a (replicate 4 true)
 
 abbrev pub net_b : Net
 unfolding net_of
-net_b = net_of 4 4 links_b (replicate 4 1)
+net_b = net_of 4 4 links_b (replicate 4 true)
 
--- net A with no usable link: no flag is 1
+-- net A with no usable link: no flag is set
 abbrev pub shut_a : Net
 unfolding net_of
 shut_a = net_of 4 4 links_a []

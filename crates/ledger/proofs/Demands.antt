@@ -11,7 +11,7 @@ use Rattle.area.specs.Books.{Books}
 use Rattle.area.specs.Formed.{WellFormed}
 use Rattle.area.specs.Order.{Agrees}
 use Rattle.area.proofs.Order.{agrees_eq, agrees_next, agrees_sym}
-use Rattle.area.specs.declared.Loading.TheVariants.{Loaded}
+use Rattle.area.specs.Refusals.{grants}
 use Rattle.area.specs.Load.{load_answer, area_loaded}
 use Rattle.area.proofs.Loads.{accepted_station, accepted_formed}
 use Rattle.rules.specs.Calls.{quote, admission}
@@ -33,7 +33,7 @@ first_demand = every_call_decided
 
 module _ (n : ℕ) (links : List ℕ) where
   -- ---- an accepted load: the ledger opens in agreement with the area, so any two such areas agree
-  module _ (w : List ℕ) (accepted : load_answer w n links ≡ Loaded) where
+  module _ (w : List ℕ) (accepted : load_answer w n links ≡ grants tt) where
     opens : Agrees (station (area_loaded w n links)) (opened n links)
     opens = agrees_eq (accepted_station w n links accepted)
 
@@ -49,7 +49,7 @@ module _ (n : ℕ) (links : List ℕ) where
         → Throughout w n links cs P
     throughout P one cs = at_every P one (opened n links) (history (area_loaded w n links) cs) (said cs)
 
-  agreeing : (w v : List ℕ) → load_answer w n links ≡ Loaded → load_answer v n links ≡ Loaded → Agreeing (area_loaded w n links) (area_loaded v n links)
+  agreeing : (w v : List ℕ) → load_answer w n links ≡ grants tt → load_answer v n links ≡ grants tt → Agreeing (area_loaded w n links) (area_loaded v n links)
   agreeing w v accepted accepted' =
       record {
         first = formed w accepted;
@@ -58,7 +58,7 @@ module _ (n : ℕ) (links : List ℕ) where
       }
 
   -- ---- the third demand, and the second at every place of a list
-  module _ (w : List ℕ) (accepted : load_answer w n links ≡ Loaded) (cs : List Lending) where
+  module _ (w : List ℕ) (accepted : load_answer w n links ≡ grants tt) (cs : List Lending) where
     pub third_demand : ThirdDemand w n links cs
     third_demand =
         record {

@@ -9,6 +9,8 @@ use Rattle.network.specs.Net.{Net, IsPath}
 use Rattle.network.specs.Problem.{Solves, Distance}
 use Rattle.network.specs.Reduce.{delay_bound, cost_bound, one, two, WithinBounds}
 use Rattle.network.specs.declared.Request.{Request}
+use Rattle.network.specs.declared.answer.Reduction.{Reduction}
+use Rattle.network.specs.declared.answer.Reduction.TheVariants.{One, Two}
 use Rattle.network.proofs.Bounds.{x_positive, one_distance, solution_one_within, solution_two_within, overqualified_solves_one, overqualified_solves_two}
 use Rattle.search.specs.Result.{Unsolved, GrantedByOne, GrantedByTwo}
 use Rattle.area.specs.Refusals.{refuses, grants, IsRefused, IsGranted, Answered}
@@ -24,7 +26,7 @@ module _ (g : Net) (r : Request) where
   grant_solvable : (a : PathGrant) → Grant g r a → Solvable g r
   grant_solvable a h = go h.least
     where
-      go : ((a.problem ≡ 1) × GrantedByOne g r a.path) ⊎ ((a.problem ≡ 2) × GrantedByTwo g r a.path) → Solvable g r
+      go : ((a.problem ≡ One) × GrantedByOne g r a.path) ⊎ ((a.problem ≡ Two) × GrantedByTwo g r a.path) → Solvable g r
       go (inl (e, b)) = (b.0, b.1, (a.path, inl b.2.solves))
       go (inr (e, b)) = (b.0, b.1, (a.path, inr b.3.solves))
 
@@ -47,9 +49,9 @@ module _ (g : Net) (r : Request) where
     -- Theorem 2
     overqualified_solvable : Overqualifies g r → Solvable g r
     overqualified_solvable (k, far, (p, path, inl h)) =
-        (k, far, (p, inl (overqualified_solves_one g r (r.coefficient * k) p path h.0 h.1 C)))
+        (k, far, (p, inl (overqualified_solves_one g r (r.terms.coefficient * k) p path h.0 h.1 C)))
     overqualified_solvable (k, far, (p, path, inr h)) =
-        (k, far, (p, inr (overqualified_solves_two g r (r.coefficient * k) p path h.0 h.1 D)))
+        (k, far, (p, inr (overqualified_solves_two g r (r.terms.coefficient * k) p path h.0 h.1 D)))
 
     -- an overqualified path is always enough
     pub search_enough : (a : PathReply) → Answered (Grant g r) (search_rules g r) a → Overqualifies g r → IsGranted a
@@ -59,16 +61,16 @@ module _ (g : Net) (r : Request) where
     search_enough (grants b) h o = (b, refl)
 
   module _ (n : ℕ) (fits : RequestFits n r) where
-    x_some : (k : ℕ) → Distance g r.source r.target k → 0 < r.coefficient * k
-    x_some k far = x_positive g r.source r.target k r.coefficient fits.apart fits.terms.coefficient_least far
+    x_some : (k : ℕ) → Distance g r.source r.target k → 0 < r.terms.coefficient * k
+    x_some k far = x_positive g r.source r.target k r.terms.coefficient fits.apart fits.terms.coefficient_least far
 
     -- a best solution of either problem is a path within both bounds
-    by_either : (p : List ℕ) (which : ℕ) → ((which ≡ 1) × GrantedByOne g r p) ⊎ ((which ≡ 2) × GrantedByTwo g r p)
+    by_either : (p : List ℕ) (which : Reduction) → ((which ≡ One) × GrantedByOne g r p) ⊎ ((which ≡ Two) × GrantedByTwo g r p)
         → IsPath g r.source r.target p × WithinBounds g r p
     by_either p which (inl (e, h)) =
-        (h.2.solves.path, solution_one_within g r (r.coefficient * h.0) p (x_some h.0 h.1) fits.terms.cost_least h.2.solves)
+        (h.2.solves.path, solution_one_within g r (r.terms.coefficient * h.0) p (x_some h.0 h.1) fits.terms.cost_least h.2.solves)
     by_either p which (inr (e, h)) =
-        (h.3.solves.path, solution_two_within g r (r.coefficient * h.0) p (x_some h.0 h.1) fits.terms.delay_least h.3.solves)
+        (h.3.solves.path, solution_two_within g r (r.terms.coefficient * h.0) p (x_some h.0 h.1) fits.terms.delay_least h.3.solves)
 
     -- the second demand, of one granted path
     pub grant_path_granted : (a : PathGrant) → Grant g r a → GrantedPath g r a

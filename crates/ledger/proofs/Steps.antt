@@ -46,7 +46,7 @@ module _ (w : List ℕ) (formed : WellFormed w) where
 
   -- the circuits after an admission, by its reply
   admits : (work path c : ℕ) (r : Request) (a : PathReply) → admission w work path c r ≡ a
-      → Agrees (station (booked w c r.units a)) (moved (station w) (admitting work path c r) (told (admitting work path c r) a))
+      → Agrees (station (booked w c r.terms.units a)) (moved (station w) (admitting work path c r) (told (admitting work path c r) a))
   unfolding booked
   admits work path c r (refuses k) e = agrees_refl (station w)
   admits work path c r (grants g) e = agrees_eq (admitted_station w work path c r g e)

@@ -6,25 +6,16 @@ use Rattle.network.specs.Lists.{Distinct, memb}
 use Rattle.network.specs.Net.{Net, Walk, nodes_of, sum}
 use Rattle.network.specs.Reduce.{WithinBounds}
 use Rattle.network.specs.declared.Request.{Request}
-use Rattle.network.specs.declared.Grant.{Grant as Numbers}
+use Rattle.network.specs.declared.answer.Reduction.TheVariants.{One, Two}
 use Rattle.search.specs.Result.{GrantedByOne, GrantedByTwo}
 use Rattle.area.specs.Books.{Books}
 use Rattle.area.specs.Order.{Same}
-use Rattle.area.specs.Refusals.{Passes, refuses, grants, IsRefused, IsGranted}
-use Rattle.area.specs.declared.Loading.TheVariants as loading
-use Rattle.area.specs.declared.ValueAnswer.TheVariants as value
+use Rattle.area.specs.Refusals.{Passes, Reply, refuses, grants, IsRefused, IsGranted}
 use Rattle.area.specs.Load.{load_answer, area_loaded}
 use Rattle.area.specs.Reads.{list_answer, listed, free_answer}
-use Rattle.rules.specs.declared.Service.{Service}
-use Rattle.rules.specs.declared.RequestAnswer.TheVariants as request
-use Rattle.rules.specs.declared.ReleaseAnswer.TheVariants as release
-use Rattle.rules.specs.declared.CheckAnswer.TheVariants as check
-use Rattle.rules.specs.declared.ClassAnswer.TheVariants as class
-use Rattle.rules.specs.Replies.{PathGrant, PathReply, answer_of, path_after, release_answer_of}
+use Rattle.rules.specs.Replies.{PathGrant, PathReply, answer_of, path_after}
 use Rattle.rules.specs.Calls as calls
 use Rattle.rules.specs.Classes.{check_answer, class_answer}
-use Rattle.link_format.specs.declared.Size.{Size}
-use Rattle.link_format.specs.declared.FileAnswer.TheVariants as file
 use Rattle.link_format.specs.Reading.{read_answer, table_read}
 use Rattle.ledger.specs.Entries.{Call, Granting, ReplyTo, opened, checks, Refuses, Grants}
 use Rattle.ledger.specs.History.{Lending, given_by, Event, history, answers, area_at_end, bookings, at_end, Struck, remaining}
@@ -34,8 +25,8 @@ use Rattle.ledger.specs.Sentences.{Solvable, Overqualifies, AtEvery, OfRequest}
 -- "Every call on any numbers and any memory gives its answer or a numbered refusal. A refusal leaves bookings and path buffer
 -- as they stood; only work memory may differ."
 -- The answer a is one that grants, or a refusal with one of these numbers, and then the lent words are kept.
-abbrev pub Decided : {A : Type 0} → (A → Type 0) → (ℕ → A) → List ℕ → Type 0 → A → Type 0
-Decided Granted refused numbers Kept a = Granted a ⊎ ((k : ℕ) × (memb k numbers ≡ true) × (a ≡ refused k) × Kept)
+abbrev pub Decided : {A : Type 0} → List ℕ → Type 0 → Reply A → Type 0
+Decided numbers Kept a = IsGranted a ⊎ ((k : ℕ) × (memb k numbers ≡ true) × (a ≡ refuses k) × Kept)
 
 -- Each call by the definitions that its contract cites, on any words w, l and t of its area, its path buffer or list and
 -- its table, and any numbers. The numbers are those that the papers give for the call, in their order. A call that is lent
@@ -43,26 +34,26 @@ Decided Granted refused numbers Kept a = Granted a ⊎ ((k : ℕ) × (memb k num
 -- the table's rows.
 pub record FirstDemand : Type 0 where
   pub load : (w : List ℕ) (n : ℕ) (links : List ℕ)
-      → Decided (λ a. a ≡ loading.Loaded) loading.Refused (1 ∷ 2 ∷ 3 ∷ 4 ∷ []) (area_loaded w n links ≡ w) (load_answer w n links)
+      → Decided (1 ∷ 2 ∷ 3 ∷ 4 ∷ []) (area_loaded w n links ≡ w) (load_answer w n links)
   pub quote : (w : List ℕ) (work : ℕ) (l : List ℕ) (r : Request)
       → let a = calls.quote w work (length l) r in
-      Decided (λ said. (g : Numbers) × (said ≡ request.Granted g)) request.Refused (5 ∷ 6 ∷ 7 ∷ 8 ∷ 9 ∷ 10 ∷ []) (path_after a l ≡ l) (answer_of a)
+      Decided (5 ∷ 6 ∷ 7 ∷ 8 ∷ 9 ∷ 10 ∷ []) (path_after a l ≡ l) (answer_of a)
   pub admission : (w : List ℕ) (work : ℕ) (l : List ℕ) (c : ℕ) (r : Request)
       → let a = calls.admission w work (length l) c r in
-      Decided (λ said. (g : Numbers) × (said ≡ request.Granted g)) request.Refused (5 ∷ 6 ∷ 7 ∷ 8 ∷ 11 ∷ 12 ∷ 9 ∷ 10 ∷ [])
-      ((calls.booked w c r.units a ≡ w) × (path_after a l ≡ l)) (answer_of a)
+      Decided (5 ∷ 6 ∷ 7 ∷ 8 ∷ 11 ∷ 12 ∷ 9 ∷ 10 ∷ [])
+      ((calls.booked w c r.terms.units a ≡ w) × (path_after a l ≡ l)) (answer_of a)
   pub release : (w : List ℕ) (c : ℕ)
       → let a = calls.release w c in
-      Decided (λ said. said ≡ release.Released) release.Refused (5 ∷ 13 ∷ []) (calls.cleared w c a ≡ w) (release_answer_of a)
+      Decided (5 ∷ 13 ∷ []) (calls.cleared w c a ≡ w) a
   pub list : (w l : List ℕ)
-      → Decided (λ a. (h : ℕ) × (a ≡ value.Value h)) value.Refused (5 ∷ 14 ∷ []) (listed w l ≡ l) (list_answer w (length l))
+      → Decided (5 ∷ 14 ∷ []) (listed w l ≡ l) (list_answer w (length l))
   pub free_units : (w : List ℕ) (i : ℕ)
-      → Decided (λ a. (u : ℕ) × (a ≡ value.Value u)) value.Refused (5 ∷ 15 ∷ []) (Unit {0}) (free_answer w i)
-  pub check_classes : (rows : List ℕ) → Decided (λ a. a ≡ check.Accepted) check.Refused (20 ∷ 21 ∷ []) (Unit {0}) (check_answer rows)
+      → Decided (5 ∷ 15 ∷ []) (Unit {0}) (free_answer w i)
+  pub check_classes : (rows : List ℕ) → Decided (20 ∷ 21 ∷ []) (Unit {0}) (check_answer rows)
   pub class : (rows : List ℕ) (k : ℕ)
-      → Decided (λ a. (s : Service) × (a ≡ class.Row s)) class.Refused (20 ∷ 21 ∷ 16 ∷ []) (Unit {0}) (class_answer rows k)
+      → Decided (20 ∷ 21 ∷ 16 ∷ []) (Unit {0}) (class_answer rows k)
   pub link_file : (f t : List ℕ)
-      → Decided (λ a. (s : Size) × (a ≡ file.Table s)) file.Refused (17 ∷ 18 ∷ 19 ∷ []) (table_read f t ≡ t) (read_answer f (length t))
+      → Decided (17 ∷ 18 ∷ 19 ∷ []) (table_read f t ≡ t) (read_answer f (length t))
 
 -- ---- the second demand
 -- what it says of a path that a request was granted, with its problem and totals
@@ -75,7 +66,7 @@ pub record GrantedPath (g : Net) (r : Request) (a : PathGrant) : Type 0 where
   pub bounds : WithinBounds g r a.path
   -- "has the least kept weight among ALL solutions of the reduced problem that granted it", which is two only where one has
   -- none; both are at the same x: "No looser second try."
-  pub least : ((a.problem ≡ 1) × GrantedByOne g r a.path) ⊎ ((a.problem ≡ 2) × GrantedByTwo g r a.path)
+  pub least : ((a.problem ≡ One) × GrantedByOne g r a.path) ⊎ ((a.problem ≡ Two) × GrantedByTwo g r a.path)
   -- "its totals are its links' sums"
   pub delay : a.delay ≡ sum g.delay a.path
   pub cost : a.cost ≡ sum g.cost a.path
@@ -116,6 +107,6 @@ module _ (w : List ℕ) (n : ℕ) (links : List ℕ) (cs : List Lending) where
     pub enough : Throughout (λ o q a. Passes (checks o q) → OfRequest (λ g r b. Overqualifies g r → IsGranted b) o q a)
     -- "striking quotes changes no other answer nor the final bookings", from any area v loaded with the same numbers and
     -- whatever words the calls are lent
-    pub struck : (v : List ℕ) → load_answer v n links ≡ loading.Loaded → (ds : List Lending) (s : Struck cs ds)
+    pub struck : (v : List ℕ) → load_answer v n links ≡ grants tt → (ds : List Lending) (s : Struck cs ds)
         → (answers (area_loaded v n links) ds ≡ remaining s (answers start cs))
         × Same (bookings (area_at_end (area_loaded v n links) ds)) (bookings (area_at_end start cs))

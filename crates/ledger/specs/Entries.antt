@@ -56,7 +56,7 @@ opened n links = record { table = table_of n links; held = [] }
 -- the network that a request sees: a link is usable if its free units are at least the units asked for. Distance, x and
 -- both problems are this network's.
 abbrev pub seen : Books → Request → Net
-seen o r = net o r.units
+seen o r = net o r.terms.units
 
 -- ---- which answers it allows
 -- the rules before the search, in the order given for each call; the area is always well formed, so 5 is not among them
@@ -86,7 +86,7 @@ Grants o (releasing c) g = Unit {0}
 
 -- ---- how the entries move
 abbrev pub entry : ℕ → Request → List ℕ → Circuit
-entry c r p = record { number = c; units = r.units; path = p }
+entry c r p = record { number = c; units = r.terms.units; path = p }
 
 -- A quote and a refused call leave the ledger alone. A granted admission adds its number, its units and the path. A
 -- release removes the entry with its number; where none has it, the release is refused and nothing is removed.

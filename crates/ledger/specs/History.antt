@@ -4,10 +4,9 @@
 use Rattle.std.specs.Prelude.{ℕ, ◌≡◌, List, [], ◌∷◌, length, take}
 use Rattle.network.specs.declared.Request.{Request}
 use Rattle.area.specs.Station.{Circuit, station}
-use Rattle.rules.specs.declared.RequestAnswer.{RequestAnswer}
-use Rattle.rules.specs.declared.RequestAnswer.TheVariants.{Refused, Granted}
-use Rattle.rules.specs.declared.ReleaseAnswer.{ReleaseAnswer}
-use Rattle.rules.specs.Replies.{PathReply, answer_of, path_of, path_after, ReleaseReply, release_answer_of}
+use Rattle.network.specs.declared.Grant.{Grant as Numbers}
+use Rattle.area.specs.Refusals.{Reply, refuses, grants}
+use Rattle.rules.specs.Replies.{PathReply, answer_of, path_of, path_after, ReleaseReply}
 use Rattle.rules.specs.Calls.{quote, admission, booked, release, cleared}
 use Rattle.ledger.specs.Entries.{Call, quoting, admitting, releasing, ReplyTo, told, Ledger, moved}
 
@@ -31,7 +30,7 @@ reply_to w (releasing c) = release w c
 -- the area after; a quote is lent it unchangeable
 abbrev pub area_after : List ℕ → Lending → List ℕ
 area_after w (quoting work path r) = w
-area_after w (admitting work path c r) = booked w c r.units (admission w (length work) (length path) c r)
+area_after w (admitting work path c r) = booked w c r.terms.units (admission w (length work) (length path) c r)
 area_after w (releasing c) = cleared w c (release w c)
 
 -- ---- what it gives
@@ -41,32 +40,27 @@ buffer (quoting work path r) = path
 buffer (admitting work path c r) = path
 buffer (releasing c) = []
 
--- how many links the code's answer counts
-abbrev pub links_of : RequestAnswer → ℕ
-links_of (Refused k) = 0
-links_of (Granted g) = g.links
+-- how many links an answer counts
+abbrev pub links_of : Reply Numbers → ℕ
+links_of (refuses k) = 0
+links_of (grants g) = g.links
 
 -- document 01's answer: of a quote or an admission the numbers, and the l words that a grant writes in the path buffer; of
 -- a release its numbers
 pub data Given : Type 0 where
-  of_request : (numbers : RequestAnswer) → (words : List ℕ) → Given
-  of_release : (numbers : ReleaseAnswer) → Given
+  of_request : (numbers : Reply Numbers) → (words : List ℕ) → Given
+  of_release : (numbers : ReleaseReply) → Given
 
--- of a quote or an admission that is lent the path buffer `path` and has the reply a: the code's answer and the first l
--- words of the path buffer after, both as the contracts say
+-- of a quote or an admission that is lent the path buffer `path` and has the reply a: the answer and the first l words of the
+-- path buffer after, both as the contracts say
 unfoldable pub path_given : List ℕ → PathReply → Given
 unfolding answer_of path_after
 path_given path a = of_request (answer_of a) (take (links_of (answer_of a)) (path_after a path))
 
--- of a release
-unfoldable pub release_given : ReleaseReply → Given
-unfolding release_answer_of
-release_given a = of_release (release_answer_of a)
-
 abbrev pub given : List ℕ → (q : Call ℕ) → ReplyTo q → Given
 given path (quoting work len r) a = path_given path a
 given path (admitting work len c r) a = path_given path a
-given path (releasing c) a = release_given a
+given path (releasing c) a = of_release a
 
 -- of a call on an area
 abbrev pub given_to : List ℕ → Lending → Given
@@ -76,7 +70,7 @@ given_to w c = given (buffer c) (measured c) (reply_to w c)
 abbrev pub given_by : (q : Call ℕ) → ReplyTo q → Given
 given_by (quoting work len r) a = of_request (answer_of a) (path_of a)
 given_by (admitting work len c r) a = of_request (answer_of a) (path_of a)
-given_by (releasing c) a = release_given a
+given_by (releasing c) a = of_release a
 
 -- ---- a list of calls
 pub record Event : Type 0 where

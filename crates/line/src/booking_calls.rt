@@ -1,15 +1,38 @@
 // Quote, admission and release for C.
 ghost use Rattle.std.specs.Prelude.{◌≡◌, length};
 ghost use Rattle.network.specs.Reduce.{asking};
-ghost use Rattle.rules.specs.Replies.{answer_of, path_after, release_answer_of};
+ghost use Rattle.rules.specs.Replies.{answer_of, path_after};
 ghost use Rattle.rules.specs.Calls.{quote, admission, booked, release, cleared};
-ghost use Rattle.line.specs.Codes.{answer_code, grant_words, release_code};
+ghost use Rattle.line.specs.Codes.{code, words_after, grant_words};
 ghost use Rattle.line.specs.Meaning.{QuoteTells, AdmissionTells, ReleaseTells};
 
-use crate::replies::{request, tell};
+use crate::told::{code, tell};
 use booking::calls;
 use booking::quote::quote;
-use rules::ReleaseAnswer;
+use network::{Request, Terms};
+
+// The request of the numbers, in the order in which C gives them.
+fn request(
+    s: u32,
+    t: u32,
+    units: u32,
+    delay_bound: u32,
+    cost_bound: u32,
+    coefficient: u32,
+) -> Request
+    ensures { result ≡ asking s t units delay_bound cost_bound coefficient }
+{
+    Request {
+        source: s,
+        target: t,
+        terms: Terms {
+            units,
+            delay_bound,
+            cost_bound,
+            coefficient,
+        },
+    }
+}
 
 // 5, 6, 7, 8, 9 and 10; else 0, problem, delay, cost and links in `answer` and the path's links in `path`. Work memory is
 // open after.
@@ -26,14 +49,13 @@ pub extern "C" fn line_quote(
     coefficient: u32,
     answer: &mut [u32; 4],
 ) -> u32
-    ensures code { result ≡ answer_code (answer_of (quote area.now (length work.old) (length path.old) (asking s t units delay_bound cost_bound coefficient))) }
-    ensures answer { answer.new ≡ grant_words (answer_of (quote area.now (length work.old) (length path.old) (asking s t units delay_bound cost_bound coefficient))) answer.old }
+    ensures code { result ≡ code (answer_of (quote area.now (length work.old) (length path.old) (asking s t units delay_bound cost_bound coefficient))) }
+    ensures answer { answer.new ≡ words_after grant_words (answer_of (quote area.now (length work.old) (length path.old) (asking s t units delay_bound cost_bound coefficient))) answer.old }
     ensures path { path.new ≡ path_after (quote area.now (length work.old) (length path.old) (asking s t units delay_bound cost_bound coefficient)) path.old }
     ensures means { QuoteTells area.now (length work.old) path.old answer.old (asking s t units delay_bound cost_bound coefficient) result path.new answer.new }
 {
     let r = request(s, t, units, delay_bound, cost_bound, coefficient);
-    let quoted = quote(area, work, path, r);
-    tell(quoted, answer)
+    tell(quote(area, work, path, r), answer)
 }
 
 // 5, 6, 7, 8, 11, 12, 9 and 10; else as a quote, and the circuit is added to the area. Work memory is open after.
@@ -51,27 +73,22 @@ pub extern "C" fn line_admit(
     coefficient: u32,
     answer: &mut [u32; 4],
 ) -> u32
-    ensures code { result ≡ answer_code (answer_of (admission area.old (length work.old) (length path.old) circuit (asking s t units delay_bound cost_bound coefficient))) }
-    ensures answer { answer.new ≡ grant_words (answer_of (admission area.old (length work.old) (length path.old) circuit (asking s t units delay_bound cost_bound coefficient))) answer.old }
+    ensures code { result ≡ code (answer_of (admission area.old (length work.old) (length path.old) circuit (asking s t units delay_bound cost_bound coefficient))) }
+    ensures answer { answer.new ≡ words_after grant_words (answer_of (admission area.old (length work.old) (length path.old) circuit (asking s t units delay_bound cost_bound coefficient))) answer.old }
     ensures path { path.new ≡ path_after (admission area.old (length work.old) (length path.old) circuit (asking s t units delay_bound cost_bound coefficient)) path.old }
     ensures area { area.new ≡ booked area.old circuit units (admission area.old (length work.old) (length path.old) circuit (asking s t units delay_bound cost_bound coefficient)) }
     ensures means { AdmissionTells area.old (length work.old) path.old answer.old circuit (asking s t units delay_bound cost_bound coefficient) result path.new answer.new area.new }
 {
     let r = request(s, t, units, delay_bound, cost_bound, coefficient);
-    let admitted = calls::admit(area, work, path, circuit, r);
-    tell(admitted, answer)
+    tell(calls::admit(area, work, path, circuit, r), answer)
 }
 
 // 5 and 13; else 0, and the circuit with this number goes.
-#[tactic(auto, unfolding(crate::specs::Codes::release_code))]
 #[unsafe(no_mangle)]
 pub extern "C" fn line_release(area: &mut [u32], circuit: u32) -> u32
-    ensures code { result ≡ release_code (release_answer_of (release area.old circuit)) }
+    ensures code { result ≡ code (release area.old circuit) }
     ensures area { area.new ≡ cleared area.old circuit (release area.old circuit) }
     ensures means { ReleaseTells area.old circuit result area.new }
 {
-    match calls::release(area, circuit) {
-        ReleaseAnswer::Refused(number) => number,
-        ReleaseAnswer::Released => 0,
-    }
+    code(calls::release(area, circuit))
 }

@@ -1,23 +1,16 @@
 // The link-file reader for C.
 ghost use Rattle.std.specs.Prelude.{◌≡◌, length};
 ghost use Rattle.link_format.specs.Reading.{read_answer, table_read};
-ghost use Rattle.line.specs.Codes.{file_code, size_words};
+ghost use Rattle.line.specs.Codes.{code, words_after, size_words};
 
-use link_format::FileAnswer;
+use crate::told::tell;
 
 // 17, 18 and 19; else 0, the links' words in `table`, and n and m in `answer`.
-#[tactic(auto, unfolding(crate::specs::Codes::file_code, crate::specs::Codes::size_words))]
 #[unsafe(no_mangle)]
 pub extern "C" fn line_read_link_file(file: &[u8], table: &mut [u32], answer: &mut [u32; 2]) -> u32
-    ensures code { result ≡ file_code (read_answer file.now (length table.old)) }
-    ensures answer { answer.new ≡ size_words (read_answer file.now (length table.old)) answer.old }
+    ensures code { result ≡ code (read_answer file.now (length table.old)) }
+    ensures answer { answer.new ≡ words_after size_words (read_answer file.now (length table.old)) answer.old }
     ensures table { table.new ≡ table_read file.now table.old }
 {
-    match link_file::read(file, table) {
-        FileAnswer::Refused(k) => k,
-        FileAnswer::Table(s) => {
-            *answer = [s.nodes, s.links];
-            0
-        }
-    }
+    tell(link_file::read(file, table), answer)
 }

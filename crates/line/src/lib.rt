@@ -4,12 +4,11 @@
 // Each gives 0 for a grant, or else the papers' refusal number, and then the answer array is unchanged. None requires
 // anything of its numbers and words; what a C caller owes of pointers and lengths stands in line.h.
 //
-// `replies` and `values` tell C what two calls each answer; the other modules are the functions themselves.
+// `told` tells C what a call answers, whichever it is; the other modules are the functions themselves.
 #![tactic(auto)]
 
 mod booking_calls;
 mod class_calls;
 mod file_calls;
-mod replies;
 mod station_calls;
-mod values;
+mod told;

@@ -2,45 +2,38 @@
 ghost use Rattle.std.specs.Prelude.{◌≡◌, length};
 ghost use Rattle.area.specs.Load.{load_answer, area_loaded};
 ghost use Rattle.area.specs.Reads.{list_answer, listed, free_answer};
-ghost use Rattle.line.specs.Codes.{load_code, value_code, value_word};
+ghost use Rattle.line.specs.Codes.{code, words_after, value_words};
 ghost use Rattle.line.specs.Meaning.{ListTells};
 
-use crate::values::tell;
-use area::Loading;
+use crate::told::{code, tell};
 use station::load::load;
 use station::reads;
 
 // 1, 2, 3 and 4; else 0, and n, m, 0 and the links are written.
-#[tactic(auto, unfolding(crate::specs::Codes::load_code))]
 #[unsafe(no_mangle)]
 pub extern "C" fn line_load(n: u32, links: &[u32], area: &mut [u32]) -> u32
-    ensures code { result ≡ load_code (load_answer area.old n links.now) }
+    ensures code { result ≡ code (load_answer area.old n links.now) }
     ensures area { area.new ≡ area_loaded area.old n links.now }
 {
-    match load(n, links, area) {
-        Loading::Refused(k) => k,
-        Loading::Loaded => 0,
-    }
+    code(load(n, links, area))
 }
 
 // 5 and 14; else 0, the held circuits' numbers in `numbers`, and how many they are in `answer`.
 #[unsafe(no_mangle)]
 pub extern "C" fn line_list(area: &[u32], numbers: &mut [u32], answer: &mut [u32; 1]) -> u32
-    ensures code { result ≡ value_code (list_answer area.now (length numbers.old)) }
-    ensures answer { answer.new ≡ value_word (list_answer area.now (length numbers.old)) answer.old }
+    ensures code { result ≡ code (list_answer area.now (length numbers.old)) }
+    ensures answer { answer.new ≡ words_after value_words (list_answer area.now (length numbers.old)) answer.old }
     ensures numbers { numbers.new ≡ listed area.now numbers.old }
     ensures means { ListTells area.now numbers.old answer.old result numbers.new answer.new }
 {
-    let count = reads::list(area, numbers);
-    tell(count, answer)
+    tell(reads::list(area, numbers), answer)
 }
 
 // 5 and 15; else 0, and the link's free units in `answer`.
 #[unsafe(no_mangle)]
 pub extern "C" fn line_free_units(area: &[u32], link: u32, answer: &mut [u32; 1]) -> u32
-    ensures code { result ≡ value_code (free_answer area.now link) }
-    ensures answer { answer.new ≡ value_word (free_answer area.now link) answer.old }
+    ensures code { result ≡ code (free_answer area.now link) }
+    ensures answer { answer.new ≡ words_after value_words (free_answer area.now link) answer.old }
 {
-    let units = reads::free_units(area, link);
-    tell(units, answer)
+    tell(reads::free_units(area, link), answer)
 }

@@ -8,6 +8,7 @@
 #![tactic(auto)]
 
 ghost use Rattle.std.specs.Prelude.{◌≡◌, length};
+ghost use Rattle.area.specs.Refusals.{numbered};
 ghost use Rattle.link_format.specs.Reading.{read_answer, table_read};
 
 mod records;
@@ -15,36 +16,31 @@ mod word;
 
 use crate::records::read_records;
 use crate::word::{is_signed, word};
-use link_format::{FileAnswer, Size};
-use links::link;
+use area::Refusal;
+use link_format::Size;
 use network::limits::{LINK_WORDS, MOST_LINKS};
 
 // 17, 18 and 19 in this order; else n and m, and the records' words stand in the first 5 m words of `table`, whose other
 // words keep theirs. A usize has 64 bits, so the sum of the offset and the records' bytes is exact.
-pub fn read(file: &[u8], table: &mut [u32]) -> FileAnswer
-    ensures answer { result ≡ read_answer file.now (length table.old) }
+#[tactic(auto, unfolding(link_format::specs::Reading::read_answer, link_format::specs::Reading::table_read, link_format::specs::Reading::fills, link_format::specs::Reading::record_words, link_format::specs::Reading::signed))]
+pub fn read(file: &[u8], table: &mut [u32]) -> Result<Size, Refusal>
+    ensures answer { numbered result ≡ read_answer file.now (length table.old) }
     ensures table { table.new ≡ table_read file.now table.old }
 {
     if !is_signed(file) {
-        return FileAnswer::Refused(17);
+        return Err(Refusal::NotSigned);
     }
     let end = file.len();
     let links = word(file, end - 12);
-    let m = link::wide(links);
-    if MOST_LINKS < m {
-        return FileAnswer::Refused(18);
-    }
-    let offset = link::wide(word(file, end - 16));
-    if offset + 20 * m + 16 != end {
-        return FileAnswer::Refused(18);
+    let m = links as usize;
+    let offset = word(file, end - 16) as usize;
+    if MOST_LINKS < m || offset + 20 * m + 16 != end {
+        return Err(Refusal::FileLength);
     }
     if table.len() < LINK_WORDS * m {
-        return FileAnswer::Refused(19);
+        return Err(Refusal::TableShort);
     }
     read_records(&file[offset..], m, table);
     let nodes = word(file, end - 8);
-    FileAnswer::Table(Size {
-        nodes: nodes,
-        links: links,
-    })
+    Ok(Size { nodes, links })
 }

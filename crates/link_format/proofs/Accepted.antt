@@ -10,11 +10,10 @@ use lib.ListN.{length, drop}
 use Rattle.network.specs.Limits.{link_words, most_links}
 use Rattle.network.proofs.Stored.{from_length}
 use Rattle.network.proofs.Tests.{fst_of, snd_of, zero_one}
+use Rattle.area.specs.Refusals.{Reply, refuses, grants}
 use Rattle.area.specs.Checks.{first_failing}
 use Rattle.area.proofs.Checks.{each_passes, all_pass}
 use Rattle.link_format.specs.declared.Size.{Size}
-use Rattle.link_format.specs.declared.FileAnswer.{FileAnswer}
-use Rattle.link_format.specs.declared.FileAnswer.TheVariants.{Refused, Table}
 use Rattle.link_format.specs.Reading.{signed, fills, offset_in, links_in, nodes_in, record_words, read_checks, read_answer, table_read}
 use Rattle.link_format.proofs.ReadCases.{filled}
 
@@ -28,12 +27,12 @@ pub record Accepted (f : List ℕ) (table : ℕ) : Type 0 where
   pub whole : offset_in f + 20 * links_in f + 16 ≡ length f
   pub enough : link_words * links_in f ≤ table
 
-abbrev size_of : FileAnswer → Size
-size_of (Refused k) = record { nodes = 0; links = 0 }
-size_of (Table s) = s
+abbrev size_of : Reply Size → Size
+size_of (refuses k) = record { nodes = 0; links = 0 }
+size_of (grants s) = s
 
 module _ (f : List ℕ) (table : ℕ) where
-  pub accepts : Accepted f table → read_answer f table ≡ Table (record { nodes = nodes_in f; links = links_in f })
+  pub accepts : Accepted f table → read_answer f table ≡ grants (record { nodes = nodes_in f; links = links_in f })
   unfolding read_answer
   accepts a = simp (a.trailer, filled f [] a.trailer a.few a.whole, le-leb (link_words * links_in f) table a.enough)
 
@@ -48,10 +47,10 @@ module _ (f : List ℕ) (table : ℕ) where
         enough = leb-true (link_words * links_in f) table each.1.1.0;
       }
 
-  module _ (s : Size) (e : read_answer f table ≡ Table s) where
-    passed : (first_failing (read_checks f table) ≡ 0) × (Table (record { nodes = nodes_in f; links = links_in f }) ≡ Table s)
+  module _ (s : Size) (e : read_answer f table ≡ grants s) where
+    passed : (first_failing (read_checks f table) ≡ 0) × (grants (record { nodes = nodes_in f; links = links_in f }) ≡ grants s)
     unfolding read_answer
-    passed = all_pass Refused (read_checks f table) _ (Table s) (λ k clash. zero_one cc) e
+    passed = all_pass refuses (read_checks f table) _ (grants s) (λ k clash. zero_one cc) e
 
     pub read_accepted : Accepted f table
     read_accepted = checks_said passed.0
@@ -61,6 +60,6 @@ module _ (f : List ℕ) (table : ℕ) where
     size_read = sym (ap size_of passed.1)
 
 -- the records' words stand in front, and the words past them keep theirs
-pub table_accepted : (f t : List ℕ) (s : Size) → read_answer f (length t) ≡ Table s → table_read f t ≡ record_words f ++ drop (link_words * links_in f) t
+pub table_accepted : (f t : List ℕ) (s : Size) → read_answer f (length t) ≡ grants s → table_read f t ≡ record_words f ++ drop (link_words * links_in f) t
 unfolding table_read
 table_accepted f t s e = rw (passed f (length t) s e).0 refl

@@ -1,21 +1,22 @@
 -- The reader takes exactly the link files: what is laid out as one is accepted with its n, m and words, and what is
 -- accepted is laid out as one, with the words that were read.
 -- Assumes nothing.
-use mathlib.Core.Path.{◌≡◌, refl, sym, ap, ap₂, subst, ◌∙◌}
+use mathlib.Core.Path.{◌≡◌, sym, ap, ap₂, subst, ◌∙◌}
 use mathlib.Core.Bool.{true}
-use mathlib.Core.List.{List, [], ◌∷◌, ◌++◌, append_assoc}
+use mathlib.Core.List.{List, ◌++◌, append_assoc}
 use Prim.Native.Nat.{ℕ, ◌+◌, ◌*◌, ◌-◌, ◌^◌, ◌≤◌, ◌<◌}
 use native.Mathlib.Omega.{arith}
-use borrow.Author.Tests.{le-leb, eq-eqb, eqb-true}
-use lib.Dec.{leb, eqb}
-use lib.ListN.{length, get_or, take, drop, length-append, length-drop, take-append-drop}
-use lib.Seq.{get_or-append-add, get_or-drop, drop-append_seam, drop-drop, length-take-le}
+use borrow.Author.Tests.{le-leb}
+use lib.Dec.{leb}
+use lib.ListN.{length, take, drop, length-append, length-drop, take-append-drop}
+use lib.Pointwise.{bytes_decides}
+use lib.Seq.{drop-append-add, drop-append_seam, drop-drop, length-take-le}
 use Rattle.network.specs.Limits.{link_words, most_links}
-use Rattle.network.proofs.Tests.{fst_of, snd_of}
+use Rattle.network.proofs.Tests.{both, snd_of}
+use Rattle.area.specs.Refusals.{grants}
 use Rattle.link_format.specs.declared.Size.{Size}
-use Rattle.link_format.specs.declared.FileAnswer.TheVariants.{Table}
 use Rattle.link_format.specs.Format.{bytes_of, bytes_of_all, letters, trailer, AllBelow, LinkFile}
-use Rattle.link_format.specs.Reading.{word_at, words_from, from_end, letters_last, signed, offset_in, links_in, nodes_in, record_words, read_answer}
+use Rattle.link_format.specs.Reading.{word_at, words_from, signed, offset_in, links_in, nodes_in, record_words, read_answer}
 use Rattle.link_format.proofs.Bytes.{word_of_bytes, word_behind, word_left, words_of_bytes, bytes_of_words, bytes_left, word_fits, words_fit_lem, bytes_length}
 use Rattle.link_format.proofs.Accepted.{Accepted, accepts, records_length, read_accepted, size_read}
 
@@ -47,24 +48,12 @@ module _ (front : List ℕ) (o m n : ℕ) where
       ap (word_at whole) e ∙ word_behind front (trailer o m n) 8 ∙ word_of_bytes n small
 
   -- its letters
-  letter_laid : (back i : ℕ) → length whole - back ≡ length front + i → from_end whole back ≡ get_or (trailer o m n) i 0
-  letter_laid back i e = ap (λ (j : ℕ). get_or whole j 0) e ∙ get_or-append-add front (trailer o m n) i 0
-
   signed_laid : signed whole ≡ true
   unfolding signed
   signed_laid =
-      let e4 : length whole - 4 ≡ length front + 12 = omega (arith, whole_long) in
-      let e3 : length whole - 3 ≡ length front + 13 = omega (arith, whole_long) in
-      let e2 : length whole - 2 ≡ length front + 14 = omega (arith, whole_long) in
-      let e1 : length whole - 1 ≡ length front + 15 = omega (arith, whole_long) in
-      let long : 16 ≤ length whole = omega (arith, whole_long) in
-      simp (
-        le-leb 16 (length whole) long,
-        eq-eqb (from_end whole 4) 82 (letter_laid 4 12 e4),
-        eq-eqb (from_end whole 3) 84 (letter_laid 3 13 e3),
-        eq-eqb (from_end whole 2) 76 (letter_laid 2 14 e2),
-        eq-eqb (from_end whole 1) 75 (letter_laid 1 15 e1),
-      )
+      let e : length whole - 4 ≡ length front + 12 = omega (arith, whole_long) in
+      let last : drop (length whole - 4) whole ≡ letters = ap (λ (j : ℕ). drop j whole) e ∙ drop-append-add front (trailer o m n) 12 in
+      both (leb 16 (length whole)) _ (le-leb 16 (length whole) (omega (arith, whole_long))) ((bytes_decides letters (drop (length whole - 4) whole)).1 (sym last))
 
 module _ (n m : ℕ) (words notes : List ℕ) (few : m ≤ most_links) (five : length words ≡ link_words * m) (offset_fits : length notes < 2 ^ 32) where
   abbrev laid : List ℕ
@@ -101,37 +90,21 @@ module _ (n m : ℕ) (words notes : List ℕ) (few : m ≤ most_links) (five : l
 
 -- it is accepted with its n and m where the table has room, and its words are read
 pub reads_link_file : (n m : ℕ) (words f : List ℕ) → LinkFile n m words f → (table : ℕ) → link_words * m ≤ table
-    → (read_answer f table ≡ Table (record { nodes = n; links = m })) × (record_words f ≡ words)
+    → (read_answer f table ≡ grants (record { nodes = n; links = m })) × (record_words f ≡ words)
 reads_link_file n m words f is table enough =
     let notes = is.notes in
     let g = notes ++ bytes_of_all words ++ trailer (length notes) m n in
     let nodes_is = nodes_laid (notes ++ bytes_of_all words) (length notes) m n is.nodes_fit in
     let links_are = links_is n m words notes is.few is.five is.offset_fits in
-    let answer = accepts g table (laid_accepted n m words notes is.few is.five is.offset_fits table enough) ∙ ap₂ (λ (a b : ℕ). Table (record { nodes = a; links = b })) nodes_is links_are in
+    let answer = accepts g table (laid_accepted n m words notes is.few is.five is.offset_fits table enough) ∙ ap₂ (λ (a b : ℕ). grants (record { nodes = a; links = b })) nodes_is links_are in
     let read = laid_words n m words notes is.few is.five is.offset_fits is.words_fit in
-    subst (λ (h : List ℕ). (read_answer h table ≡ Table (record { nodes = n; links = m })) × (record_words h ≡ words)) (sym is.laid) (answer, read)
+    subst (λ (h : List ℕ). (read_answer h table ≡ grants (record { nodes = n; links = m })) × (record_words h ≡ words)) (sym is.laid) (answer, read)
 
 -- ---- what is accepted
-four_long : (l : List ℕ) → length l ≡ 4 → l ≡ get_or l 0 0 ∷ get_or l 1 0 ∷ get_or l 2 0 ∷ get_or l 3 0 ∷ []
-four_long [] e = absurd (omega arith)
-four_long (u ∷ []) e = absurd (omega arith)
-four_long (u ∷ y ∷ []) e = absurd (omega arith)
-four_long (u ∷ y ∷ z ∷ []) e = absurd (omega arith)
-four_long (u ∷ y ∷ z ∷ w ∷ []) e = refl
-four_long (u ∷ y ∷ z ∷ w ∷ v ∷ l) e = absurd (omega arith)
-
 -- the letters of a file that is signed
-letters_are : (f : List ℕ) → signed f ≡ true → (from_end f 4 ≡ 82) × (from_end f 3 ≡ 84) × (from_end f 2 ≡ 76) × (from_end f 1 ≡ 75)
+letters_are : (f : List ℕ) → signed f ≡ true → drop (length f - 4) f ≡ letters
 unfolding signed
-letters_are f e =
-    let all = snd_of (leb 16 (length f)) (letters_last f) e in
-    let past4 = snd_of (eqb (from_end f 4) 82) _ all in
-    let past3 = snd_of (eqb (from_end f 3) 84) _ past4 in (
-      eqb-true (from_end f 4) 82 (fst_of (eqb (from_end f 4) 82) _ all),
-      eqb-true (from_end f 3) 84 (fst_of (eqb (from_end f 3) 84) _ past4),
-      eqb-true (from_end f 2) 76 (fst_of (eqb (from_end f 2) 76) _ past3),
-      eqb-true (from_end f 1) 75 (snd_of (eqb (from_end f 2) 76) _ past3),
-    )
+letters_are f e = sym ((bytes_decides letters (drop (length f - 4) f)).0 (snd_of (leb 16 (length f)) _ e))
 
 -- the last 16 bytes
 module _ (f : List ℕ) (bytes : AllBelow 256 f) (s : signed f ≡ true) (d : ℕ) (behind : d + 16 ≡ length f) where
@@ -140,13 +113,8 @@ module _ (f : List ℕ) (bytes : AllBelow 256 f) (s : signed f ≡ true) (d : �
 
   last_letters : drop 12 (drop d f) ≡ letters
   last_letters =
-      let l = drop 12 (drop d f) in
-      let four : length (drop 12 (drop d f)) ≡ 4 = omega (arith, length-drop 12 (drop d f), last_long) in
-      let is = letters_are f s in
-      four_long l four ∙ λ t. (at 0 4 (omega arith) ∙ is.0) t ∷ (at 1 3 (omega arith) ∙ is.1) t ∷ (at 2 2 (omega arith) ∙ is.2) t ∷ (at 3 1 (omega arith) ∙ is.3) t ∷ []
-    where
-      at : (i back : ℕ) → d + (12 + i) ≡ length f - back → get_or (drop 12 (drop d f)) i 0 ≡ from_end f back
-      at i back e = get_or-drop 12 (drop d f) i 0 ∙ get_or-drop d f (12 + i) 0 ∙ ap (λ (j : ℕ). get_or f j 0) e
+      let e : d + 12 ≡ length f - 4 = omega arith in
+      drop-drop 12 d f ∙ ap (λ (n : ℕ). drop n f) e ∙ letters_are f s
 
   last_trailer : drop d f ≡ trailer (offset_in f) (links_in f) (nodes_in f)
   unfolding bytes_of_all
@@ -193,7 +161,7 @@ module _ (f : List ℕ) (bytes : AllBelow 256 f) (table : ℕ) (a : Accepted f t
       }
 
 -- a list of bytes that is accepted is a link file with the words that were read
-pub accepted_link_file : (f : List ℕ) → AllBelow 256 f → (table : ℕ) (s : Size) → read_answer f table ≡ Table s
+pub accepted_link_file : (f : List ℕ) → AllBelow 256 f → (table : ℕ) (s : Size) → read_answer f table ≡ grants s
     → LinkFile s.nodes s.links (record_words f) f
 accepted_link_file f bytes table s e =
     subst (λ (z : Size). LinkFile z.nodes z.links (record_words f) f) (sym (size_read f table s e))

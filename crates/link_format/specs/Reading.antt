@@ -1,11 +1,13 @@
 -- What the reader answers, and the table after. Its contract cites these definitions.
 -- Assumes nothing.
 use Rattle.std.specs.Prelude.{ℕ, ◌+◌, ◌*◌, ◌-◌, Bool, ◌&&◌, List, [], ◌∷◌, ◌++◌, leb, eqb, length, get_or, drop}
+use Rattle.std.specs.List.{ends_with}
 use Rattle.network.specs.Limits.{link_words, most_links}
 use Rattle.network.specs.Lists.{from}
+use Rattle.area.specs.Refusals.{Reply, refuses, grants}
 use Rattle.area.specs.Checks.{Check, ◌unless◌, checked}
-use Rattle.link_format.specs.declared.FileAnswer.{FileAnswer}
-use Rattle.link_format.specs.declared.FileAnswer.TheVariants.{Refused, Table}
+use Rattle.link_format.specs.declared.Size.{Size}
+use Rattle.link_format.specs.Format.{letters}
 
 -- the word of four bytes from a place on, the low byte first
 unfoldable pub word_at : List ℕ → ℕ → ℕ
@@ -15,17 +17,9 @@ word_at b i = get_or b i 0 + 256 * get_or b (i + 1) 0 + 65536 * (get_or b (i + 2
 abbrev pub words_from : List ℕ → ℕ → ℕ → List ℕ
 words_from b i k = from (λ j. word_at b (4 * j)) i k
 
--- the byte that stands so many places before the end
-abbrev pub from_end : List ℕ → ℕ → ℕ
-from_end f back = get_or f (length f - back) 0
-
--- the last four bytes are the letters RTLK
-abbrev pub letters_last : List ℕ → Bool
-letters_last f = eqb (from_end f 4) 82 && (eqb (from_end f 3) 84 && (eqb (from_end f 2) 76 && eqb (from_end f 1) 75))
-
--- at least as long as a trailer, and the letters
+-- at least as long as a trailer, and the letters RTLK last
 unfoldable pub signed : List ℕ → Bool
-signed f = leb 16 (length f) && letters_last f
+signed f = leb 16 (length f) && ends_with eqb f letters
 
 -- the trailer's words: the byte offset of the first record, m and n
 abbrev pub offset_in : List ℕ → ℕ
@@ -49,8 +43,8 @@ abbrev pub read_checks : List ℕ → ℕ → List Check
 read_checks f table = (17 unless signed f) ∷ (18 unless fills f) ∷ (19 unless leb (link_words * links_in f) table) ∷ []
 
 -- n and m, or the refusal's number, for a table of so many words
-unfoldable pub read_answer : List ℕ → ℕ → FileAnswer
-read_answer f table = checked Refused (read_checks f table) (Table (record { nodes = nodes_in f; links = links_in f }))
+unfoldable pub read_answer : List ℕ → ℕ → Reply Size
+read_answer f table = checked refuses (read_checks f table) (grants (record { nodes = nodes_in f; links = links_in f }))
 
 -- the records' words in front, the rest untouched; a refusal changes none
 unfoldable pub table_read : List ℕ → List ℕ → List ℕ

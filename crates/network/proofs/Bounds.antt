@@ -9,6 +9,8 @@ use native.Mathlib.Nat.{mul-le-mul}
 use native.Mathlib.Omega.{arith}
 use lib.ListN.{length}
 use Rattle.network.specs.declared.Request.{Request}
+use Rattle.network.specs.declared.answer.Reduction.{Reduction}
+use Rattle.network.specs.declared.answer.Reduction.TheVariants.{One, Two}
 use Rattle.network.specs.Net.{Net, IsPath, sum}
 use Rattle.network.specs.Scale.{scaled, Overqualified}
 use Rattle.network.specs.Problem.{Problem, Solves, Distance}
@@ -79,29 +81,29 @@ Bounded g r no_path = Unit
 Bounded g r no_solution = Unit
 Bounded g r (granted which p) = WithinBounds g r p
 
-module _ (g : Net) (r : Request) (positive : 0 < r.coefficient) (D : 0 < delay_bound r) (C : 0 < cost_bound r)
+module _ (g : Net) (r : Request) (positive : 0 < r.terms.coefficient) (D : 0 < delay_bound r) (C : 0 < cost_bound r)
     (differ : r.source ≡ r.target → ⊥) where
   bounded : (o : Outcome) → Found g r o → Bounded g r o
   bounded o (none h) = tt
   bounded o (unsolved k far h h') = tt
   bounded o (by_one k p far best) =
-      solution_one_within g r (r.coefficient * k) p (x_positive g _ _ k _ differ positive far) C best.solves
+      solution_one_within g r (r.terms.coefficient * k) p (x_positive g _ _ k _ differ positive far) C best.solves
   bounded o (by_two k p far h best) =
-      solution_two_within g r (r.coefficient * k) p (x_positive g _ _ k _ differ positive far) D best.solves
+      solution_two_within g r (r.terms.coefficient * k) p (x_positive g _ _ k _ differ positive far) D best.solves
 
   -- a granted path meets both bounds
-  pub found_within : (o : Outcome) → Found g r o → (which : ℕ) (p : List ℕ) → o ≡ granted which p → WithinBounds g r p
+  pub found_within : (o : Outcome) → Found g r o → (which : Reduction) (p : List ℕ) → o ≡ granted which p → WithinBounds g r p
   found_within o found which p e = subst (Bounded g r) e (bounded o found)
 
   -- a path that meets one of the paper's two conditions is enough for a grant
   pub found_enough : (o : Outcome) → Found g r o → (k : ℕ) → Distance g r.source r.target k
       → (p : List ℕ) → IsPath g r.source r.target p → Enough g r k p
-      → (w : ℕ) × (path : List ℕ) × (o ≡ granted w path)
+      → (w : Reduction) × (path : List ℕ) × (o ≡ granted w path)
   found_enough o (none h) k far p path enough = absurd (h p path)
   found_enough o (unsolved k' far' h h') k far p path enough =
       let same : k ≡ k' = one_distance g _ _ k k' far far' in
       absurd
-      (⊎_elim (λ q. h p (overqualified_solves_one g r (r.coefficient * k') p path q.0 (rw same at q.1) C))
-      (λ q. h' p (overqualified_solves_two g r (r.coefficient * k') p path q.0 (rw same at q.1) D)) enough)
-  found_enough o (by_one k' p' far' best) k far p path enough = (1, p', refl)
-  found_enough o (by_two k' p' far' h best) k far p path enough = (2, p', refl)
+      (⊎_elim (λ q. h p (overqualified_solves_one g r (r.terms.coefficient * k') p path q.0 (rw same at q.1) C))
+      (λ q. h' p (overqualified_solves_two g r (r.terms.coefficient * k') p path q.0 (rw same at q.1) D)) enough)
+  found_enough o (by_one k' p' far' best) k far p path enough = (One, p', refl)
+  found_enough o (by_two k' p' far' h best) k far p path enough = (Two, p', refl)

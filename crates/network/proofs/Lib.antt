@@ -2,7 +2,7 @@ mod Agreement
 pub mod Tests
 pub mod Ranges
 pub mod Loops
-pub mod Columns
+pub mod Past
 mod Words
 mod Least
 pub mod NodeSet

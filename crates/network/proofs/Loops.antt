@@ -57,6 +57,9 @@ module _ {A : Type 0} (f : ℕ → A → A) where
   iter_both R zero step a b h = h
   iter_both R (suc n) step a b h = step n _ _ (omega arith) (iter_both R n (λ i a b l. step i a b (omega arith)) a b h)
 
+-- the three for a function's `using`
+pub ruleset counted = (iter_none, iter_more, iter_done)
+
 -- turns that agree below n make the same loop of n turns
 pub iter_same : {A : Type 0} (f h : ℕ → A → A) (n : ℕ) → ((i : ℕ) (a : A) → i < n → f i a ≡ h i a) → (a : A) → iter f n a ≡ iter h n a
 unfolding iter

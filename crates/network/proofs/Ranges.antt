@@ -1,11 +1,11 @@
--- A range's test says what its statement says, and so do those of a request's terms; and one answer for each return of the
--- code that tests them: the first range that fails makes the test false, and past the others the coefficient's decides.
+-- A range's test says what its statement says, and so do those of a request's terms.
 -- Assumes nothing.
 use Prim.Native.Nat.{ℕ, ◌≤◌}
-use mathlib.Core.Path.{◌≡◌, refl}
-use mathlib.Core.Bool.{Bool, true, false}
+use mathlib.Core.Path.{◌≡◌}
+use mathlib.Core.Bool.{Bool, true}
 use lib.Dec.{leb}
 use borrow.Author.Tests.{leb-true, le-leb}
+use Rattle.network.specs.declared.Terms.{Terms}
 use Rattle.network.specs.Limits.{least_units, most_units, least_bound, most_delay_bound, most_cost_bound, least_coefficient, most_coefficient}
 use Rattle.network.specs.Ranges.{in_range, TermsFit, terms_fit}
 use Rattle.network.proofs.Tests.{both, fst_of, snd_of}
@@ -17,28 +17,28 @@ pub range_test : (low high n : ℕ) → low ≤ n → n ≤ high → in_range lo
 range_test low high n l h = both (leb low n) _ (le-leb low n l) (le-leb n high h)
 
 -- ---- a request's terms
-module _ (units delay cost coefficient : ℕ) where
+module _ (t : Terms) where
   abbrev units_in : Bool
-  units_in = in_range least_units most_units units
+  units_in = in_range least_units most_units t.units
 
   abbrev delay_in : Bool
-  delay_in = in_range least_bound most_delay_bound delay
+  delay_in = in_range least_bound most_delay_bound t.delay_bound
 
   abbrev cost_in : Bool
-  cost_in = in_range least_bound most_cost_bound cost
+  cost_in = in_range least_bound most_cost_bound t.cost_bound
 
   abbrev coefficient_in : Bool
-  coefficient_in = in_range least_coefficient most_coefficient coefficient
+  coefficient_in = in_range least_coefficient most_coefficient t.coefficient
 
-  pub terms_says : terms_fit units delay cost coefficient ≡ true → TermsFit units delay cost coefficient
+  pub terms_says : terms_fit t ≡ true → TermsFit t
   unfolding terms_fit
   terms_says e =
       let e1 = snd_of units_in _ e in
       let e2 = snd_of delay_in _ e1 in
-      let u = range_says least_units most_units units (fst_of units_in _ e) in
-      let d = range_says least_bound most_delay_bound delay (fst_of delay_in _ e1) in
-      let c = range_says least_bound most_cost_bound cost (fst_of cost_in _ e2) in
-      let f = range_says least_coefficient most_coefficient coefficient (snd_of cost_in _ e2) in
+      let u = range_says least_units most_units t.units (fst_of units_in _ e) in
+      let d = range_says least_bound most_delay_bound t.delay_bound (fst_of delay_in _ e1) in
+      let c = range_says least_bound most_cost_bound t.cost_bound (fst_of cost_in _ e2) in
+      let f = range_says least_coefficient most_coefficient t.coefficient (snd_of cost_in _ e2) in
       record {
         units_least = u.0;
         units_most = u.1;
@@ -50,29 +50,10 @@ module _ (units delay cost coefficient : ℕ) where
         coefficient_most = f.1;
       }
 
-  pub terms_test : TermsFit units delay cost coefficient → terms_fit units delay cost coefficient ≡ true
+  pub terms_test : TermsFit t → terms_fit t ≡ true
   unfolding terms_fit
   terms_test h =
-      both units_in _ (range_test least_units most_units units h.units_least h.units_most)
-      (both delay_in _ (range_test least_bound most_delay_bound delay h.delay_least h.delay_most)
-      (both cost_in _ (range_test least_bound most_cost_bound cost h.cost_least h.cost_most)
-      (range_test least_coefficient most_coefficient coefficient h.coefficient_least h.coefficient_most)))
-
-  -- ---- the code's returns
-  pub units_out : units_in ≡ false → false ≡ terms_fit units delay cost coefficient
-  unfolding terms_fit
-  units_out e = rw e refl
-
-  module _ (u : units_in ≡ true) where
-    pub delay_out : delay_in ≡ false → false ≡ terms_fit units delay cost coefficient
-    unfolding terms_fit
-    delay_out e = rw (u, e) refl
-
-    module _ (d : delay_in ≡ true) where
-      pub cost_out : cost_in ≡ false → false ≡ terms_fit units delay cost coefficient
-      unfolding terms_fit
-      cost_out e = rw (u, d, e) refl
-
-      pub coefficient_left : cost_in ≡ true → coefficient_in ≡ terms_fit units delay cost coefficient
-      unfolding terms_fit
-      coefficient_left e = rw (u, d, e) refl
+      both units_in _ (range_test least_units most_units t.units h.units_least h.units_most)
+      (both delay_in _ (range_test least_bound most_delay_bound t.delay_bound h.delay_least h.delay_most)
+      (both cost_in _ (range_test least_bound most_cost_bound t.cost_bound h.cost_least h.cost_most)
+      (range_test least_coefficient most_coefficient t.coefficient h.coefficient_least h.coefficient_most)))

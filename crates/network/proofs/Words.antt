@@ -2,6 +2,7 @@
 -- order, and the links behind them follow by their numbers.
 -- Assumes nothing.
 use mathlib.Core.Path.{◌≡◌, refl, subst}
+use mathlib.Core.Bool.{Bool}
 use mathlib.Core.List.{List, ◌∷◌}
 use Prim.Native.Nat.{ℕ, suc, ◌+◌, ◌*◌}
 use native.Mathlib.Omega.{arith}
@@ -18,7 +19,7 @@ pub record LinkIs (g : Net) (i a b delay cost : ℕ) : Type 0 where
   pub its_cost : g.cost i ≡ cost
 
 module _ (a b delay cost capacity : ℕ) (rest : List ℕ) where
-  pub first_link_lem : (n m : ℕ) (flags : List ℕ) → LinkIs (net_of n m (a ∷ b ∷ delay ∷ cost ∷ capacity ∷ rest) flags) 0 a b delay cost
+  pub first_link_lem : (n m : ℕ) (flags : List Bool) → LinkIs (net_of n m (a ∷ b ∷ delay ∷ cost ∷ capacity ∷ rest) flags) 0 a b delay cost
   unfolding net_of
   first_link_lem n m flags = record { from = refl; to = refl; its_delay = refl; its_cost = refl }
 

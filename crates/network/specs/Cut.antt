@@ -19,12 +19,19 @@ left_already left v = member left v
 unfoldable pub noted : ℕ → ℕ → ℕ → List ℕ → List ℕ
 noted left v i next = let more : List ℕ = set next v i in cond (left_already left v) next more
 
+abbrev pub note_at : ℕ → ℕ → Notes → Notes
+note_at v i s = record { left = inserted s.left v; next = noted s.left v i s.next }
+
 abbrev pub note_link : Net → ℕ → Notes → Notes
-note_link g i s = record { left = inserted s.left (g.tail i); next = noted s.left (g.tail i) i s.next }
+note_link g i s = note_at (g.tail i) i s
+
+-- before any link is noted
+abbrev pub no_notes : Notes
+no_notes = record { left = 0; next = replicate most_nodes 0 }
 
 -- the notes of a walk, its last link first
 abbrev pub notes : Net → List ℕ → Notes
-notes g [] = record { left = 0; next = replicate most_nodes 0 }
+notes g [] = no_notes
 notes g (i ∷ p) = note_link g i (notes g p)
 
 -- the links that lead from v to t by the notes, f of them at most

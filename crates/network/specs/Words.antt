@@ -1,6 +1,6 @@
 -- The network that link words describe: five words a link, in the order from, to, delay, cost, capacity.
 -- Assumes nothing.
-use Rattle.std.specs.Prelude.{ℕ, ◌+◌, ◌*◌, ◌≤◌, ◌<◌, ◌≡◌, Bool, List, eqb, length, get_or}
+use Rattle.std.specs.Prelude.{ℕ, ◌+◌, ◌*◌, ◌≤◌, ◌<◌, ◌≡◌, Bool, false, List, length, get_or}
 use Rattle.network.specs.Limits.{link_words, most_cost, most_delay, most_links, most_nodes}
 use Rattle.network.specs.Net.{Net}
 
@@ -21,9 +21,9 @@ net_by n m words usable =
       cost = λ i. field words i 3;
     }
 
--- a link whose flag is 1 is usable
-unfoldable pub net_of : ℕ → ℕ → List ℕ → List ℕ → Net
-net_of n m words flags = net_by n m words (λ i. eqb (get_or flags i 0) 1)
+-- a link whose flag is set is usable
+unfoldable pub net_of : ℕ → ℕ → List ℕ → List Bool → Net
+net_of n m words flags = net_by n m words (λ i. get_or flags i false)
 
 -- the words are those of m links between n nodes, and what a search reads of them is in document 01's ranges; it reads no
 -- capacity, and equal ends do it no harm

@@ -3,35 +3,34 @@
 // room speaks in these terms.
 #![tactic(auto)]
 
+mod answer;
 pub mod limits;
 
-// A request of document 01: from source to target for some units, within both bounds; the search's x is the
+pub use crate::answer::{NoRoute, Reduction};
+
+// What a job asks for, whatever its nodes: its units, its bounds D and C, and its coefficient. The search's x is the
 // coefficient times the distance.
-#[derive(Clone, Copy)]
-pub struct Request {
-    pub source: u32,
-    pub target: u32,
+#[derive(Clone, Copy, Debug, PartialEq, Eq)]
+pub struct Terms {
     pub units: u32,
     pub delay_bound: u32,
     pub cost_bound: u32,
     pub coefficient: u32,
 }
 
-// A granted path: the problem that granted it, 1 or 2, its delay, its cost and its number of links.
-#[derive(Clone, Copy)]
+// A request of document 01: from source to target, on these terms.
+#[derive(Clone, Copy, Debug, PartialEq, Eq)]
+pub struct Request {
+    pub source: u32,
+    pub target: u32,
+    pub terms: Terms,
+}
+
+// A granted path: the problem that granted it, its delay, its cost and its number of links.
+#[derive(Clone, Copy, Debug, PartialEq, Eq)]
 pub struct Grant {
-    pub problem: u32,
+    pub problem: Reduction,
     pub delay: u32,
     pub cost: u32,
     pub links: u32,
-}
-
-// What a search answers.
-#[derive(Clone, Copy)]
-pub enum SearchAnswer {
-    // No usable path exists.
-    NoPath,
-    // Usable paths exist, and none solves either problem.
-    NoSolution,
-    Granted(Grant),
 }

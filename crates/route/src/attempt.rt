@@ -1,77 +1,72 @@
 // One reduced problem: the table, and where it reaches t within both bounds the path, granted with its own totals.
 // `problems` calls it, once or twice for each search.
 ghost use Rattle.std.specs.Prelude.{◌≡◌, ◌≤◌, ◌<◌, length};
-ghost use Rattle.network.specs.Limits.{most_x, path_words, work_words};
-ghost use Rattle.network.specs.Words.{LinkTable};
+ghost use Rattle.network.specs.Limits.{path_words};
 ghost use Rattle.search.specs.ebf.Solve.{solve};
 ghost use Rattle.search.specs.Heuristic.{outcome_of};
-ghost use Rattle.search.specs.Solver.{Flagged, net_in, problem_of};
+ghost use Rattle.search.specs.Solver.{SameEdges, net_in, problem_of};
 ghost use Rattle.search.specs.Forward.{grant_of};
 ghost use Rattle.search.specs.Result.{search_answer_of, path_after};
 ghost use Rattle.search.specs.ebf.Passed.{passed};
+ghost use Rattle.route.specs.Described.{described};
 
-use crate::path::forward;
+use crate::net::Network;
 use crate::rounds::rounds;
 use crate::table::{cell, initialise};
 use crate::trace::trace;
-use network::limits::MOST_LINKS;
-use network::{Grant, SearchAnswer};
+use network::limits::WORK_WORDS;
+use network::{Grant, NoRoute, Reduction};
 use search::Reduced;
 
 // The path that a finished table holds for t, granted with its own totals: sums of the links' delays and costs as they
 // are, whichever of the two the problem scales.
 fn found(
-    work: &[u32],
+    net: &Network<'_>,
+    p: &Reduced<'_>,
+    work: &[u32; WORK_WORDS],
     path: &mut [u32],
-    links: &[u32],
-    scaled: &[u32; MOST_LINKS],
-    p: Reduced,
     s: usize,
     t: usize,
-    which: u32,
-) -> SearchAnswer
-    requires link_table { LinkTable p.nodes p.links links.now }
-    requires ranges { (p.x ≤ most_x) × (work_words ≤ length work.now) × (path_words ≤ length path.old) × (s < p.nodes) × (t < p.nodes) }
-    ensures answer { result ≡ grant_of which (passed p links.now scaled.now work.now s t path.old).0 }
-    ensures path { path.new ≡ (passed p links.now scaled.now work.now s t path.old).1 }
+    which: Reduction,
+) -> Grant
+    requires path_words_in_bounds { path_words ≤ length path.old }
+    requires nodes { (s < net.now.nodes) × (t < p.now.nodes) }
+    ensures answer { result ≡ grant_of which (passed (described net.now) p.now work.now s t path.old).0 }
+    ensures path { path.new ≡ (passed (described net.now) p.now work.now s t path.old).1 }
 {
-    let next = trace(work, links, scaled, p, s, t);
-    let w = forward(p.nodes, p.links, links, &next, path, s, t);
-    SearchAnswer::Granted(Grant {
+    let notes = trace(p, work, s, t);
+    let w = net.forward(&notes.next, path, s, t);
+    Grant {
         problem: which,
         delay: w.delay,
         cost: w.cost,
         links: w.links as u32,
-    })
+    }
 }
 
-// Problem `which`: `kept` is the column of the weight that is kept, `scaled` that of the other one scaled. After lines 20
-// to 24 it has a solution where d[t, x] is within the bound, since d[t, x] covers every scaled weight up to x. Work
-// memory is open after. `route` calls it with columns and numbers within the ranges that `search` requires.
+// Problem `which` over the edges of the network. After lines 20 to 24 it has a solution where d[t, x] is within the bound,
+// since d[t, x] covers every scaled weight up to x. Work memory is open after.
+#[tactic(auto, using(search::proofs::ebf::Outcomes::table_bounded))]
 pub fn attempt(
-    work: &mut [u32],
+    net: &Network<'_>,
+    p: &Reduced<'_>,
+    work: &mut [u32; WORK_WORDS],
     path: &mut [u32],
-    links: &[u32],
-    usable: &[u32],
-    kept: &[u32; MOST_LINKS],
-    scaled: &[u32; MOST_LINKS],
-    p: Reduced,
     s: usize,
     t: usize,
-    which: u32,
-) -> SearchAnswer
-    requires flagged { Flagged p links.now usable.now kept.now }
-    requires ranges { (work_words ≤ length work.old) × (path_words ≤ length path.old) × (s < p.nodes) × (t < p.nodes) }
-    ensures answer { result ≡ search_answer_of (net_in p links.now usable.now)
-        (outcome_of which (solve (net_in p links.now usable.now) (problem_of p kept.now scaled.now) s t)) }
-    ensures path { path.new ≡ path_after
-        (outcome_of which (solve (net_in p links.now usable.now) (problem_of p kept.now scaled.now) s t)) path.old }
+    which: Reduction,
+) -> Result<Grant, NoRoute>
+    requires edges { SameEdges (described net.now) (net_in p.now) }
+    requires path_words_in_bounds { path_words ≤ length path.old }
+    requires nodes { (s < p.now.nodes) × (t < p.now.nodes) }
+    ensures answer { result ≡ search_answer_of (described net.now) (outcome_of which (solve (net_in p.now) (problem_of p.now) s t)) }
+    ensures path { path.new ≡ path_after (outcome_of which (solve (net_in p.now) (problem_of p.now) s t)) path.old }
 {
-    initialise(work, p, s);
-    rounds(work, links, usable, kept, scaled, p);
-    let at = cell(p.x, t, p.x);
+    initialise(p, work, s);
+    rounds(p, work);
+    let at = cell(p, t, p.x);
     if p.bound < work[2 * at] {
-        return SearchAnswer::NoSolution;
+        return Err(NoRoute::NoSolution);
     }
-    found(work, path, links, scaled, p, s, t, which)
+    Ok(found(net, p, work, path, s, t, which))
 }

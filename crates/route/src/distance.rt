@@ -1,62 +1,52 @@
 // The fewest links from s to t, by layers of the node set: x is measured by it (section 2.3 of the paper).
-ghost use Rattle.std.specs.Prelude.{◌≡◌, ◌≤◌, ◌<◌, length};
-ghost use Rattle.network.specs.Words.{net_of, LinkTable};
-ghost use Rattle.search.specs.Distance.{spread_link, spread, distance};
+ghost use Rattle.std.specs.Prelude.{◌≡◌, ◌<◌};
+ghost use Rattle.search.specs.Distance.{spread_link, spread, distance_if_any};
+ghost use Rattle.route.specs.Described.{described};
 
-use links::{link, node_set};
+use crate::net::Network;
+use links::node_set::NodeSet;
 
-// Link `i` adds its head to `more` where it is usable and its tail is in `set`.
-fn spread_link(
-    n: usize,
-    m: usize,
-    links: &[u32],
-    usable: &[u32],
-    set: u32,
-    i: usize,
-    more: u32,
-) -> u32
-    requires link_table { LinkTable n m links.now }
-    requires m_in_bounds { m ≤ length usable.now }
-    requires i_lt_m { i < m }
-    ensures { result ≡ spread_link (net_of n m links.now usable.now) set i more }
-{
-    if usable[i] != 1 {
-        return more;
-    }
-    let from = link::wide(link::word(links, i, link::FROM));
-    if !node_set::contains(set, from) {
-        return more;
-    }
-    let to = link::wide(link::word(links, i, link::TO));
-    node_set::insert(more, to)
-}
-
-// The set with the heads of all usable links that leave it.
-fn spread(n: usize, m: usize, links: &[u32], usable: &[u32], set: u32) -> u32
-    requires link_table { LinkTable n m links.now }
-    requires m_in_bounds { m ≤ length usable.now }
-    ensures { result ≡ spread (net_of n m links.now usable.now) set }
-{
-    let mut more = set;
-    for i in 0..m {
-        more = spread_link(n, m, links, usable, set, i, more);
-    }
-    more
-}
-
-// The fewest links of a usable path from `s` to `t`, or `n` where there is none. `search` requires as much and calls it.
-pub fn distance(n: usize, m: usize, links: &[u32], usable: &[u32], s: usize, t: usize) -> usize
-    requires link_table { LinkTable n m links.now }
-    requires m_in_bounds { m ≤ length usable.now }
-    requires nodes { (s < n) × (t < n) }
-    ensures { result ≡ distance (net_of n m links.now usable.now) s t }
-{
-    let mut set = node_set::insert(0, s);
-    for k in 0..n {
-        if node_set::contains(set, t) {
-            return k;
+impl Network<'_> {
+    // Link `i` adds its head to `more` where it is usable and its tail is in `set`.
+    #[tactic(auto, unfolding(network::specs::Words::net_of))]
+    fn spread_link(&self, set: NodeSet, i: usize, more: NodeSet) -> NodeSet
+        requires { i < self.now.links.count }
+        ensures { result ≡ spread_link (described self.now) set i more }
+    {
+        if !self.usable[i] {
+            return more;
         }
-        set = spread(n, m, links, usable, set);
+        let link = self.links.get(i);
+        if !set.contains(link.from) {
+            return more;
+        }
+        more.with(link.to)
     }
-    n
+
+    // The set with the heads of all usable links that leave it. A link goes by its number: its words and its flag stand apart.
+    #[tactic(auto, unfolding(network::specs::Words::net_of, search::specs::Distance::spread), using(network::proofs::Loops::counted))]
+    fn spread(&self, set: NodeSet) -> NodeSet
+        ensures { result ≡ spread (described self.now) set }
+    {
+        let mut more = set;
+        for i in 0..self.links.count {
+            more = self.spread_link(set, i, more);
+        }
+        more
+    }
+
+    // The fewest links of a usable path from `s` to `t`, if there is one.
+    pub(crate) fn distance(&self, s: usize, t: usize) -> Option<usize>
+        requires { (s < self.now.nodes) × (t < self.now.nodes) }
+        ensures { result ≡ distance_if_any (described self.now) s t }
+    {
+        let mut set = NodeSet::new().with(s);
+        for k in 0..self.nodes {
+            if set.contains(t) {
+                return Some(k);
+            }
+            set = self.spread(set);
+        }
+        None
+    }
 }

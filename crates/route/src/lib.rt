@@ -2,18 +2,20 @@
 // Bellman-Ford search, problem one and else problem two, as in section 2.3 of the paper.
 //
 // A search goes through the modules in this order: `distance`, `problems`, and for each problem `weights`, then `attempt`
-// with `table` (lines 1 to 5), `rounds` (lines 21 to 24) with `relax` (lines 6 to 10), `trace` and `path`.
+// with `table` (lines 1 to 5), `rounds` (lines 21 to 24) with `relax` (lines 6 to 10), `trace` with `notes`, and `path`.
 //
 // Only `search` can be called from outside. What the functions below it require follows from what `search` requires,
 // and each caller shows it; what `search` requires, the upper crate's calls have checked before they search.
 #![tactic(auto)]
 
 ghost use Rattle.std.specs.Prelude.{◌≡◌};
-ghost use Rattle.network.specs.Words.{net_of};
 ghost use Rattle.search.specs.Result.{Ready, outcome, search_answer_of, path_after};
+ghost use Rattle.route.specs.Described.{described};
 
 mod attempt;
 mod distance;
+mod net;
+mod notes;
 mod path;
 mod problems;
 mod relax;
@@ -22,33 +24,28 @@ mod table;
 mod trace;
 mod weights;
 
-use crate::distance::distance;
+pub use crate::net::Network;
 use crate::problems::both_problems;
-use links::link;
-use network::{Request, SearchAnswer};
+use network::{Grant, NoRoute, Request};
 
-// Searches for a path for request `r` among `m` links and `n` nodes; a link whose flag in `usable` is 1 is usable.
-// A granted path stands in the first words of `path`. Work memory may hold anything before, and is open after.
-// The `requires` are the ranges and lengths that the upper crate has checked before it searches.
+// Searches the network for a path for request `r`. A granted path stands in the first words of `path`. Work memory may
+// hold anything before, and is open after. The `requires` are the ranges and lengths that the upper crate has checked
+// before it searches.
 pub fn search(
-    n: usize,
-    m: usize,
-    links: &[u32],
-    usable: &[u32],
+    net: &Network<'_>,
     work: &mut [u32],
     path: &mut [u32],
     r: Request,
-) -> SearchAnswer
-    requires { Ready n m links.now usable.now work.old path.old r }
-    ensures answer { result ≡ search_answer_of (net_of n m links.now usable.now) (outcome (net_of n m links.now usable.now) r) }
-    ensures path { path.new ≡ path_after (outcome (net_of n m links.now usable.now) r) path.old }
+) -> Result<Grant, NoRoute>
+    requires { Ready net.now.nodes work.old path.old r }
+    ensures answer { result ≡ search_answer_of (described net.now) (outcome (described net.now) r) }
+    ensures path { path.new ≡ path_after (outcome (described net.now) r) path.old }
 {
-    let s = link::wide(r.source);
-    let t = link::wide(r.target);
-    let far = distance(n, m, links, usable, s, t);
-    if n <= far {
-        return SearchAnswer::NoPath;
-    }
-    let x = link::wide(r.coefficient) * far;
-    both_problems(n, m, links, usable, work, path, r, x)
+    let s = r.source as usize;
+    let t = r.target as usize;
+    let Some(far) = net.distance(s, t) else {
+        return Err(NoRoute::NoPath);
+    };
+    let x = r.terms.coefficient as usize * far;
+    both_problems(net, work, path, r, x)
 }

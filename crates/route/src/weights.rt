@@ -1,24 +1,70 @@
-// The links' scaled weights, formula 1 for every link, prepared once for each problem: the rounds divide nothing.
-ghost use Rattle.std.specs.Prelude.{◌≡◌, ℕ, ◌*◌, ◌≤◌, ◌<◌, length, get_or};
-ghost use Rattle.network.specs.Limits.{link_words, most_bound, most_links, most_weight, most_x};
-ghost use Rattle.network.specs.Scale.{scaled};
-ghost use Rattle.network.specs.Words.{field};
+// The links of a reduced problem, their weights in the roles that the problem gives them. Formula 1 is applied once for each
+// link and problem: the rounds divide nothing.
+ghost use Rattle.std.specs.Prelude.{◌≡◌, ◌≤◌, ◌<◌};
+ghost use Rattle.network.specs.Limits.{most_x};
+ghost use Rattle.network.specs.Reduce.{TermsInRange};
+ghost use Rattle.search.specs.Roles.{by_problem, problem_by};
+ghost use Rattle.search.specs.Solver.{Reduces, Weighed};
+ghost use Rattle.route.specs.Described.{described};
 
-use links::link::word;
+use crate::net::Network;
 use links::scale::scale;
 use network::limits::MOST_LINKS;
+use network::{Reduction, Request};
+use search::{Hop, Reduced};
 
-// The scaled weight of every link, formula 1, where word `j` of a link is the weight. `route` calls it with a delay or a
-// cost for the word and with its bound, which are in their ranges.
-pub fn scaled_column(links: &[u32], m: usize, j: usize, x: usize, bound: u32) -> [u32; MOST_LINKS]
-    requires ranges { (m ≤ most_links) × (j < link_words) × (x ≤ most_x) × (0 < bound) × (bound ≤ most_bound) }
-    requires links_len { length links.now ≡ link_words * m }
-    requires by_index { (i : ℕ) → i < m → field links.now i j ≤ most_weight }
-    ensures { (i : ℕ) → get_or result i 0 ≡ scaled x bound (field links.now i j) }
+// What problem one has, or what problem two has in its place.
+fn by_problem(which: Reduction, one: u32, two: u32) -> u32
+    ensures { result ≡ by_problem which one two }
 {
-    let mut words = [0; MOST_LINKS];
-    for i in 0..m {
-        words[i] = scale(word(links, i, j), x as u32, bound);
+    match which {
+        Reduction::One => one,
+        Reduction::Two => two,
     }
-    words
+}
+
+impl Network<'_> {
+    // Link `i` as problem `which` has it.
+    #[tactic(auto, unfolding(network::specs::Words::net_of, search::specs::Roles::problem_by))]
+    fn hop(&self, r: Request, x: usize, which: Reduction, i: usize) -> Hop
+        requires terms { TermsInRange r }
+        requires x_le_most_x { x ≤ most_x }
+        requires i_lt_count { i < self.now.links.count }
+        ensures { Weighed (described self.now) (problem_by (described self.now) r x which) i result }
+    {
+        let link = self.links.get(i);
+        let other = by_problem(which, link.cost, link.delay);
+        let bound = by_problem(which, r.terms.cost_bound, r.terms.delay_bound);
+        Hop {
+            tail: link.from as u8,
+            head: link.to as u8,
+            usable: self.usable[i],
+            kept: by_problem(which, link.delay, link.cost),
+            step: scale(other, x as u32, bound),
+        }
+    }
+
+    // Problem `which` of request `r` at `x`, its links listed in `hops`. The entries past the links keep what they hold, so
+    // each link is written by its number.
+    pub(crate) fn reduced<'a>(
+        &self,
+        r: Request,
+        x: usize,
+        which: Reduction,
+        hops: &'a mut [Hop; MOST_LINKS],
+    ) -> Reduced<'a>
+        requires terms { TermsInRange r }
+        requires x_le_most_x { x ≤ most_x }
+        ensures { Reduces (described self.now) (problem_by (described self.now) r x which) result }
+    {
+        for i in 0..self.links.count {
+            hops[i] = self.hop(r, x, which, i);
+        }
+        Reduced {
+            nodes: self.nodes,
+            x,
+            bound: by_problem(which, r.terms.delay_bound, r.terms.cost_bound),
+            hops: &hops[..self.links.count],
+        }
+    }
 }

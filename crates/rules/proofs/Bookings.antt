@@ -13,6 +13,7 @@ use Rattle.network.specs.Limits.{most_path_links}
 use Rattle.network.specs.Lists.{memb}
 use Rattle.network.specs.Net.{Net, IsPath}
 use Rattle.network.specs.declared.Request.{Request}
+use Rattle.network.specs.declared.answer.Reduction.TheVariants.{One, Two}
 use Rattle.network.proofs.Tests.{by_bool, by_lt}
 use Rattle.network.proofs.Paths.{walk_links}
 use Rattle.network.proofs.Short.{path_short}
@@ -42,7 +43,7 @@ use Rattle.rules.proofs.Meaning.{area_searchable, formed_past, request_past, num
 pub grant_path : {g : Net} {r : Request} {a : PathGrant} → Grant g r a → IsPath g r.source r.target a.path
 grant_path {g = g} {r = r} {a = a} h = go h.least
   where
-    go : ((a.problem ≡ 1) × GrantedByOne g r a.path) ⊎ ((a.problem ≡ 2) × GrantedByTwo g r a.path)
+    go : ((a.problem ≡ One) × GrantedByOne g r a.path) ⊎ ((a.problem ≡ Two) × GrantedByTwo g r a.path)
         → IsPath g r.source r.target a.path
     go (inl (e, h)) = h.2.solves.path
     go (inr (e, h)) = h.3.solves.path
@@ -88,7 +89,7 @@ module _ (w : List ℕ) (work path c : ℕ) (r : Request) (g : PathGrant) (e : a
   short = seen_short w r admission_granted.formed admission_granted.request p is_path
 
   -- the circuit fits the table
-  pub admitted_fits : CircuitFits (station w).table (circuit_for c r.units p)
+  pub admitted_fits : CircuitFits (station w).table (circuit_for c r.terms.units p)
   unfolding books
   admitted_fits =
       record {
@@ -98,41 +99,41 @@ module _ (w : List ℕ) (work path c : ℕ) (r : Request) (g : PathGrant) (e : a
         units_most = admission_granted.request.terms.units_most;
         links_least = some_link p is_path;
         links_most = short;
-        path = (r.source, r.target, whole_path (books_in w) r.units r.source r.target p is_path);
+        path = (r.source, r.target, whole_path (books_in w) r.terms.units r.source r.target p is_path);
       }
 
   -- the links of the path have the units free
-  pub admitted_free : (i : ℕ) → memb i p ≡ true → r.units ≤ free (station w) i
+  pub admitted_free : (i : ℕ) → memb i p ≡ true → r.terms.units ≤ free (station w) i
   unfolding net books
   admitted_free i h =
-      leb-true r.units (free (station w) i) (walk_links (net_for w r) r.source r.target p is_path.walk i h).1
+      leb-true r.terms.units (free (station w) i) (walk_links (net_for w r) r.source r.target p is_path.walk i h).1
 
   -- the station after has the circuit more, and no other change
-  pub admitted_station : station (booked w c r.units (grants g)) ≡ with_circuit (station w) (circuit_for c r.units p)
+  pub admitted_station : station (booked w c r.terms.units (grants g)) ≡ with_circuit (station w) (circuit_for c r.terms.units p)
   unfolding booked
   admitted_station =
-      added_station w (circuit_for c r.units p) admission_granted.formed.long (links_few w admission_granted.formed)
+      added_station w (circuit_for c r.terms.units p) admission_granted.formed.long (links_few w admission_granted.formed)
       (omega (arith, count_is w, admission_granted.few)) short
 
   -- one more is held; since 12 is refused only where as many as may be held are, so many can be
-  pub admitted_count : (books_in (booked w c r.units (grants g))).count ≡ suc (books_in w).count
+  pub admitted_count : (books_in (booked w c r.terms.units (grants g))).count ≡ suc (books_in w).count
   unfolding books
   admitted_count = ap (λ (s : Station). length s.held) admitted_station
 
-  granted_formed : WellFormed (booked w c r.units (grants g))
+  granted_formed : WellFormed (booked w c r.terms.units (grants g))
   unfolding booked books
   granted_formed =
       record {
-        long = omega (arith, added_long w (circuit_for c r.units p), admission_granted.formed.long);
+        long = omega (arith, added_long w (circuit_for c r.terms.units p), admission_granted.formed.long);
         sound =
             subst SoundStation (sym admitted_station)
-            (sound_added (station w) (circuit_for c r.units p) admission_granted.formed.sound admission_granted.few admitted_fits
+            (sound_added (station w) (circuit_for c r.terms.units p) admission_granted.formed.sound admission_granted.few admitted_fits
             admission_granted.number.new admitted_free);
       }
 
-  granted_untouched : Untouched w (booked w c r.units (grants g))
+  granted_untouched : Untouched w (booked w c r.terms.units (grants g))
   unfolding booked
-  granted_untouched = added_untouched w (circuit_for c r.units p) (omega (arith, count_is w, admission_granted.few)) short
+  granted_untouched = added_untouched w (circuit_for c r.terms.units p) (omega (arith, count_is w, admission_granted.few)) short
 
 -- ---- any admission
 -- a refusal leaves the words as they are
@@ -141,29 +142,29 @@ same_untouched w = record { nodes = refl; links = refl; table = λ i from low. r
 
 module _ (w : List ℕ) (work path c : ℕ) (r : Request) where
   -- a well-formed area stays well formed
-  pub admitted_formed : WellFormed w → WellFormed (booked w c r.units (admission w work path c r))
+  pub admitted_formed : WellFormed w → WellFormed (booked w c r.terms.units (admission w work path c r))
   unfolding booked
   admitted_formed formed = go (admission w work path c r) refl
     where
-      go : (a : PathReply) → admission w work path c r ≡ a → WellFormed (booked w c r.units a)
+      go : (a : PathReply) → admission w work path c r ≡ a → WellFormed (booked w c r.terms.units a)
       go (refuses n) e = formed
       go (grants g) e = granted_formed w work path c r g e
 
   -- n, m, the links and the words past the circuits stay
-  pub admitted_untouched : Untouched w (booked w c r.units (admission w work path c r))
+  pub admitted_untouched : Untouched w (booked w c r.terms.units (admission w work path c r))
   unfolding booked
   admitted_untouched = go (admission w work path c r) refl
     where
-      go : (a : PathReply) → admission w work path c r ≡ a → Untouched w (booked w c r.units a)
+      go : (a : PathReply) → admission w work path c r ≡ a → Untouched w (booked w c r.terms.units a)
       go (refuses n) e = same_untouched w
       go (grants g) e = granted_untouched w work path c r g e
 
   -- the area after it is what the rules leave
-  pub admitted_area : AreaBooked w c r.units (admission w work path c r) (booked w c r.units (admission w work path c r))
+  pub admitted_area : AreaBooked w c r.terms.units (admission w work path c r) (booked w c r.terms.units (admission w work path c r))
   unfolding booked
   admitted_area = go (admission w work path c r) refl
     where
-      go : (a : PathReply) → admission w work path c r ≡ a → AreaBooked w c r.units a (booked w c r.units a)
+      go : (a : PathReply) → admission w work path c r ≡ a → AreaBooked w c r.terms.units a (booked w c r.terms.units a)
       go (refuses n) e = refl
       go (grants g) e =
           record {

@@ -44,8 +44,8 @@ module _ (words : List ℕ) where
 
   pub rows_says : rows_fit words ≡ true → RowsFit words
   unfolding rows_fit
-  rows_says e k low = terms_says _ _ _ _ (every_at fits k (rows_in words) low e)
+  rows_says e k low = terms_says _ (every_at fits k (rows_in words) low e)
 
   pub rows_test : RowsFit words → rows_fit words ≡ true
   unfolding rows_fit
-  rows_test h = every_all fits (rows_in words) λ k low. terms_test _ _ _ _ (h k low)
+  rows_test h = every_all fits (rows_in words) λ k low. terms_test _ (h k low)

@@ -11,14 +11,10 @@ use native.Mathlib.Omega.{arith}
 use Rattle.network.specs.Lists.{memb}
 use Rattle.network.specs.declared.Request.{Request}
 use Rattle.network.proofs.Tests.{unfailing, by_lt}
-use Rattle.area.specs.Refusals.{Rule, ◌when◌, FirstApplies, Passes, refuses}
+use Rattle.area.specs.Refusals.{Rule, ◌when◌, FirstApplies, Passes, Reply, refuses, grants}
 use Rattle.area.proofs.Checks.{Tested, tests_not, tests_full, checked_by, first_of_more}
 use Rattle.area.proofs.Refusals.{one_first, none_first, numbers_of, first_among}
-use Rattle.rules.specs.declared.Service.{Service}
-use Rattle.rules.specs.declared.CheckAnswer.{CheckAnswer}
-use Rattle.rules.specs.declared.CheckAnswer.TheVariants as check
-use Rattle.rules.specs.declared.ClassAnswer.{ClassAnswer}
-use Rattle.rules.specs.declared.ClassAnswer.TheVariants as class
+use Rattle.network.specs.declared.Terms.{Terms}
 use Rattle.rules.specs.Requests.{RequestFits}
 use Rattle.rules.specs.Allowed.{search_rules, number_rules}
 use Rattle.rules.specs.Meaning.{books_in, quote_rules, net_for, Quoted, Admitted}
@@ -59,25 +55,21 @@ module _ (words : List ℕ) where
   pub check_means : CheckMeans words (check_answer words)
   unfolding check_answer
   check_means =
-      checked_by (CheckMeans words) check.Refused (table_checks words) (table_rules words) table_tested check.Accepted passed_table (λ j h. h)
+      checked_by (CheckMeans words) refuses (table_checks words) (table_rules words) table_tested (grants tt) passed_table (λ j h. h)
 
   -- one answer means it
-  check_one : (a b : CheckAnswer) → CheckMeans words a → CheckMeans words b → a ≡ b
-  check_one (check.Refused i) (check.Refused j) f h = ap check.Refused (one_first (table_rules words) i j f h)
-  check_one (check.Refused i) check.Accepted f t = absurd (none_first (table_rules words) i (table_passes t) f)
-  check_one check.Accepted (check.Refused j) t h = absurd (none_first (table_rules words) j (table_passes t) h)
-  check_one check.Accepted check.Accepted t h = refl
+  check_one : (a b : Reply (Unit {0})) → CheckMeans words a → CheckMeans words b → a ≡ b
+  check_one (refuses i) (refuses j) f h = ap refuses (one_first (table_rules words) i j f h)
+  check_one (refuses i) (grants _) f t = absurd (none_first (table_rules words) i (table_passes t) f)
+  check_one (grants _) (refuses j) t h = absurd (none_first (table_rules words) j (table_passes t) h)
+  check_one (grants _) (grants _) t h = refl
 
-  pub check_only : (a : CheckAnswer) → CheckMeans words a → a ≡ check_answer words
+  pub check_only : (a : Reply (Unit {0})) → CheckMeans words a → a ≡ check_answer words
   check_only a h = check_one a (check_answer words) h check_means
 
-  -- so an answer with this meaning is the check's, which is what its contract says of each return
-  pub check_said : (a : CheckAnswer) → CheckMeans words a → (a ≡ check_answer words) × CheckMeans words a
-  check_said a h = (check_only a h, h)
-
   -- it accepts exactly the tables whose every row is in range
-  pub accepts_exactly : (check_answer words ≡ check.Accepted) ↔ ClassTable words
-  accepts_exactly = (λ e. subst (CheckMeans words) e check_means, λ t. sym (check_only check.Accepted t))
+  pub accepts_exactly : (check_answer words ≡ grants tt) ↔ ClassTable words
+  accepts_exactly = (λ e. subst (CheckMeans words) e check_means, λ t. sym (check_only (grants tt) t))
 
   -- ---- the class call
   module _ (k : ℕ) where
@@ -90,23 +82,20 @@ module _ (words : List ℕ) where
     pub class_means : ClassMeans words k (class_answer words k)
     unfolding class_answer
     class_means =
-        checked_by (ClassMeans words k) class.Refused (class_checks words k) (class_rules words k) class_tested (class.Row (row_at words k))
+        checked_by (ClassMeans words k) refuses (class_checks words k) (class_rules words k) class_tested (grants (row_at words k))
         (λ p. (passed_table (p.0, (p.1.0, tt)), below p.1.1.0, refl)) (λ j h. h)
       where
         below : (rows_in words ≤ k → ⊥) → k < rows_in words
         below n = by_lt k (rows_in words) (λ low. low) (λ high. absurd (n high))
 
-    class_one_lem : (a b : ClassAnswer) → ClassMeans words k a → ClassMeans words k b → a ≡ b
-    class_one_lem (class.Refused i) (class.Refused j) f h = ap class.Refused (one_first (class_rules words k) i j f h)
-    class_one_lem (class.Refused i) (class.Row s) f t = absurd (none_first (class_rules words k) i (class_passes t.0 t.1) f)
-    class_one_lem (class.Row r) (class.Refused j) t h = absurd (none_first (class_rules words k) j (class_passes t.0 t.1) h)
-    class_one_lem (class.Row r) (class.Row s) t h = ap class.Row (t.2 ∙ sym h.2)
+    class_one_lem : (a b : Reply Terms) → ClassMeans words k a → ClassMeans words k b → a ≡ b
+    class_one_lem (refuses i) (refuses j) f h = ap refuses (one_first (class_rules words k) i j f h)
+    class_one_lem (refuses i) (grants s) f t = absurd (none_first (class_rules words k) i (class_passes t.0 t.1) f)
+    class_one_lem (grants r) (refuses j) t h = absurd (none_first (class_rules words k) j (class_passes t.0 t.1) h)
+    class_one_lem (grants r) (grants s) t h = ap grants (t.2 ∙ sym h.2)
 
-    pub class_only : (a : ClassAnswer) → ClassMeans words k a → a ≡ class_answer words k
+    pub class_only : (a : Reply Terms) → ClassMeans words k a → a ≡ class_answer words k
     class_only a h = class_one_lem a (class_answer words k) h class_means
-
-    pub class_said : (a : ClassAnswer) → ClassMeans words k a → (a ≡ class_answer words k) × ClassMeans words k a
-    class_said a h = (class_only a h, h)
 
     -- what refuses the table refuses the class
     pub table_refused : (j : ℕ) → FirstApplies (table_rules words) j → FirstApplies (class_rules words k) j
@@ -117,15 +106,15 @@ module _ (words : List ℕ) where
     no_such_class t high = inr ((table_passes t).0, inr ((table_passes t).1.0, inl (high, refl)))
 
     -- it gives row k exactly where the table is accepted and k is below its rows
-    pub gives_exactly : (s : Service)
-        → (class_answer words k ≡ class.Row s) ↔ ((check_answer words ≡ check.Accepted) × (k < rows_in words) × (s ≡ row_at words k))
+    pub gives_exactly : (s : Terms)
+        → (class_answer words k ≡ grants s) ↔ ((check_answer words ≡ grants tt) × (k < rows_in words) × (s ≡ row_at words k))
     gives_exactly s = (
       λ e. let h = subst (ClassMeans words k) e class_means in (accepts_exactly.1 h.0, h.1, h.2),
-      λ h. sym (class_only (class.Row s) (accepts_exactly.0 h.0, h.1, h.2)),
+      λ h. sym (class_only (grants s) (accepts_exactly.0 h.0, h.1, h.2)),
     )
 
     -- ---- a row that is given, with any two different nodes of the station, is a request that check 8 takes
-    module _ (s : Service) (given : class_answer words k ≡ class.Row s) (source target : ℕ) (apart : source ≡ target → ⊥) where
+    module _ (s : Terms) (given : class_answer words k ≡ grants s) (source target : ℕ) (apart : source ≡ target → ⊥) where
       pub given_taken : (n : ℕ) → source < n → target < n → RequestFits n (request_between source target s)
       given_taken n from to =
           let h = subst (ClassMeans words k) given class_means in

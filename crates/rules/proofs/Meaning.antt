@@ -13,6 +13,8 @@ use Rattle.network.specs.Limits.{path_words, work_words}
 use Rattle.network.specs.Net.{Net}
 use Rattle.network.specs.Reduce.{Outcome, no_path, no_solution, granted}
 use Rattle.network.specs.declared.Request.{Request}
+use Rattle.network.specs.declared.answer.Reduction.{Reduction}
+use Rattle.network.specs.declared.answer.Reduction.TheVariants.{One, Two}
 use Rattle.network.proofs.Tests.{fst_of, snd_of, unfailing, zero_one, both}
 use Rattle.network.specs.Ranges.{in_range}
 use Rattle.network.proofs.Ranges.{range_says, range_test, terms_says, terms_test}
@@ -42,7 +44,7 @@ module _ (n : ℕ) (r : Request) where
         source = ltb-true r.source n (fst_of (ltb r.source n) _ e);
         target = ltb-true r.target n (fst_of (ltb r.target n) _ e1);
         apart = eqb-false r.source r.target (not-true _ (fst_of (not (eqb r.source r.target)) _ e2));
-        terms = terms_says _ _ _ _ (snd_of (not (eqb r.source r.target)) _ e2);
+        terms = terms_says _ (snd_of (not (eqb r.source r.target)) _ e2);
       }
 
   pub request_test : RequestFits n r → request_fits n r ≡ true
@@ -50,7 +52,7 @@ module _ (n : ℕ) (r : Request) where
   request_test h =
       both (ltb r.source n) _ (lt-ltb r.source n h.source)
       (both (ltb r.target n) _ (lt-ltb r.target n h.target)
-      (both (not (eqb r.source r.target)) _ (rw (ne_eqb r.source r.target h.apart)) (terms_test _ _ _ _ h.terms)))
+      (both (not (eqb r.source r.target)) _ (rw (ne_eqb r.source r.target h.apart)) (terms_test _ h.terms)))
 
 module _ (o : Books) (c : ℕ) where
   pub number_says : number_fits o c ≡ true → NumberFits o c
@@ -84,8 +86,8 @@ area_searchable w r formed fits =
 
 module _ (g : Net) (r : Request) where
   -- which problem granted
-  by_problem : (k : ℕ) (p : List ℕ) → Result g r (granted k p) → (k ≡ 1) ⊎ (k ≡ 2)
-      → ((k ≡ 1) × GrantedByOne g r p) ⊎ ((k ≡ 2) × GrantedByTwo g r p)
+  by_problem : (k : Reduction) (p : List ℕ) → Result g r (granted k p) → (k ≡ One) ⊎ (k ≡ Two)
+      → ((k ≡ One) × GrantedByOne g r p) ⊎ ((k ≡ Two) × GrantedByTwo g r p)
   by_problem k p h (inl e) = inl (e, h.by_one p (rw e))
   by_problem k p h (inr e) = inr (e, h.by_two p (rw e))
 

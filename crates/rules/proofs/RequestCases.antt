@@ -6,7 +6,6 @@ use mathlib.Core.Path.{◌≡◌, refl}
 use mathlib.Core.Bool.{false}
 use borrow.Author.Tests.{le-ltb, lt-ltb, eq-eqb, ne_eqb}
 use Rattle.network.specs.declared.Request.{Request}
-use Rattle.network.specs.Reduce.{delay_bound, cost_bound}
 use Rattle.network.specs.Ranges.{terms_fit}
 use Rattle.rules.specs.Requests.{request_fits}
 
@@ -27,6 +26,6 @@ module _ (n : ℕ) (r : Request) where
       same_ends h = rw (lt-ltb r.source n a, lt-ltb r.target n b, eq-eqb r.source r.target h) refl
 
       -- ---- the terms
-      pub terms_left : (r.source ≡ r.target → ⊥) → terms_fit r.units (delay_bound r) (cost_bound r) r.coefficient ≡ request_fits n r
+      pub terms_left : (r.source ≡ r.target → ⊥) → terms_fit r.terms ≡ request_fits n r
       unfolding request_fits
       terms_left d = rw (lt-ltb r.source n a, lt-ltb r.target n b, ne_eqb r.source r.target d) refl

@@ -3,18 +3,18 @@
 use mathlib.Core.Path.{◌≡◌, refl}
 use mathlib.Core.List.{List, [], ◌∷◌}
 use Prim.Native.Nat.{ℕ, zero, suc}
-use Rattle.rules.specs.declared.Service.{Service}
-use Rattle.rules.specs.declared.CheckAnswer.TheVariants.{Accepted}
+use Rattle.network.specs.declared.Terms.{Terms}
+use Rattle.area.specs.Refusals.{grants}
 use Rattle.rules.specs.ClassTable.{rows_in, row_at}
 use Rattle.rules.specs.Classes.{check_answer}
 use Rattle.rules.specs.SampleClasses.{sample_rows, sample}
 
-pub sample_accepted : check_answer sample ≡ Accepted
+pub sample_accepted : check_answer sample ≡ grants tt
 unfolding check_answer
 sample_accepted = refl
 
 -- c rows from row k on
-abbrev pub rows_from : List ℕ → ℕ → ℕ → List Service
+abbrev pub rows_from : List ℕ → ℕ → ℕ → List Terms
 rows_from words k zero = []
 rows_from words k (suc c) = row_at words k ∷ rows_from words (suc k) c
 

@@ -6,6 +6,7 @@ use Rattle.network.specs.Limits.{path_words, work_words}
 use Rattle.network.specs.Net.{Net, sum}
 use Rattle.network.specs.Problem.{NoPath}
 use Rattle.network.specs.declared.Request.{Request}
+use Rattle.network.specs.declared.answer.Reduction.TheVariants.{One, Two}
 use Rattle.search.specs.Result.{Unsolved, GrantedByOne, GrantedByTwo}
 use Rattle.area.specs.Layout.{least_number, most_circuits, most_number}
 use Rattle.area.specs.Books.{Books}
@@ -17,7 +18,7 @@ module _ (g : Net) (r : Request) where
   -- what a grant is: problem 1 with a best solution of problem one; or problem 2, where problem one has none, with a best
   -- solution of problem two; the delay and the cost are the path's own sums
   pub record Grant (a : PathGrant) : Type 0 where
-    pub least : ((a.problem ≡ 1) × GrantedByOne g r a.path) ⊎ ((a.problem ≡ 2) × GrantedByTwo g r a.path)
+    pub least : ((a.problem ≡ One) × GrantedByOne g r a.path) ⊎ ((a.problem ≡ Two) × GrantedByTwo g r a.path)
     pub delay : a.delay ≡ sum g.delay a.path
     pub cost : a.cost ≡ sum g.cost a.path
 

@@ -11,7 +11,7 @@ use Rattle.area.specs.Station.{station, held_in}
 use Rattle.area.specs.Books.{Books, books, net}
 use Rattle.area.specs.Held.{found_at}
 use Rattle.area.specs.Formed.{well_formed}
-use Rattle.area.specs.Refusals.{refuses, grants}
+use Rattle.area.specs.Refusals.{Reply, refuses, grants}
 use Rattle.area.specs.Checks.{Check, ◌unless◌, checked}
 use Rattle.area.specs.Moves.{added, removed}
 use Rattle.rules.specs.Requests.{request_fits}
@@ -21,7 +21,7 @@ use Rattle.rules.specs.Meaning.{books_in, circuit_for}
 -- what the route search replies to a request, by the books alone
 unfoldable pub searched : Books → Request → PathReply
 unfolding net reply_of
-searched o r = reply_of (net o r.units) (outcome (net o r.units) r)
+searched o r = reply_of (net o r.terms.units) (outcome (net o r.terms.units) r)
 
 -- a circuit number that an admission takes: in its range and not held
 unfoldable pub number_fits : Books → ℕ → Bool
@@ -35,6 +35,13 @@ request_checks o work path r =
 -- and those of a circuit number
 abbrev pub number_checks : Books → ℕ → List Check
 number_checks o c = (11 unless number_fits o c) ∷ (12 unless ltb o.count most_circuits) ∷ []
+
+-- what those checks alone say on an area w: a refusal with its number, or that they pass
+abbrev pub request_checked : List ℕ → ℕ → ℕ → Request → Reply (Unit {0})
+request_checked w work path r = checked refuses (request_checks (books_in w) work path r) (grants tt)
+
+abbrev pub number_checked : List ℕ → ℕ → Reply (Unit {0})
+number_checked w c = checked refuses (number_checks (books_in w) c) (grants tt)
 
 -- the checks of a quote on an area w
 abbrev pub quote_checks : List ℕ → ℕ → ℕ → Request → List Check

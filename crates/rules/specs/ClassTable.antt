@@ -4,9 +4,9 @@
 use Rattle.std.specs.Prelude.{ℕ, ◌+◌, ◌*◌, ◌/◌, ◌%◌, ◌≤◌, ◌<◌, ◌≡◌, Bool, ◌&&◌, List, ltb, leb, eqb, length, get_or}
 use Rattle.network.specs.Loops.{every}
 use Rattle.network.specs.Ranges.{TermsFit, terms_fit}
-use Rattle.network.specs.Reduce.{asking}
+use Rattle.network.specs.Reduce.{asks}
 use Rattle.network.specs.declared.Request.{Request}
-use Rattle.rules.specs.declared.Service.{Service}
+use Rattle.network.specs.declared.Terms.{Terms}
 
 -- ---- its lengths, which `classes/src/table.rt` has under the same names; the contract of `classes::check` equates the two,
 -- since it holds for every count of words
@@ -21,22 +21,17 @@ abbrev pub class_words : ℕ
 class_words = row_words * most_rows
 
 -- ---- what its words say
--- units, D, C and coefficient
-abbrev pub asks : ℕ → ℕ → ℕ → ℕ → Service
-asks units delay cost coefficient =
-    record { units = units; delay_bound = delay; cost_bound = cost; coefficient = coefficient }
-
 -- how many rows they are, and row k, which is what class k asks for
 abbrev pub rows_in : List ℕ → ℕ
 rows_in words = length words / row_words
 
-abbrev pub row_at : List ℕ → ℕ → Service
+abbrev pub row_at : List ℕ → ℕ → Terms
 row_at words k =
     asks (get_or words (row_words * k) 0) (get_or words (row_words * k + 1) 0) (get_or words (row_words * k + 2) 0) (get_or words (row_words * k + 3) 0)
 
 -- the request of a row from one node to another
-abbrev pub request_between : ℕ → ℕ → Service → Request
-request_between source target s = asking source target s.units s.delay_bound s.cost_bound s.coefficient
+abbrev pub request_between : ℕ → ℕ → Terms → Request
+request_between source target s = record { source = source; target = target; terms = s }
 
 -- ---- the statement
 -- the word count is not zero, not over 256 and a multiple of four
@@ -46,8 +41,8 @@ pub record WholeRows (words : List ℕ) : Type 0 where
   pub whole : length words % row_words ≡ 0
 
 -- a row's numbers are in a request's ranges, and so are those of every row
-abbrev pub RowFits : Service → Type 0
-RowFits s = TermsFit s.units s.delay_bound s.cost_bound s.coefficient
+abbrev pub RowFits : Terms → Type 0
+RowFits s = TermsFit s
 
 abbrev pub RowsFit : List ℕ → Type 0
 RowsFit words = (k : ℕ) → k < rows_in words → RowFits (row_at words k)
@@ -60,8 +55,8 @@ pub record ClassTable (words : List ℕ) : Type 0 where
 abbrev pub whole_rows : List ℕ → Bool
 whole_rows words = ltb 0 (length words) && (leb (length words) class_words && eqb (length words % row_words) 0)
 
-abbrev pub row_fits : Service → Bool
-row_fits s = terms_fit s.units s.delay_bound s.cost_bound s.coefficient
+abbrev pub row_fits : Terms → Bool
+row_fits s = terms_fit s
 
 unfoldable pub rows_fit : List ℕ → Bool
 unfolding terms_fit every

@@ -9,10 +9,9 @@ use Rattle.area.specs.Books.{Books, books, net}
 use Rattle.area.specs.Formed.{WellFormed}
 use Rattle.area.specs.Order.{Same}
 use Rattle.area.specs.Moves.{without, Untouched}
-use Rattle.area.specs.Refusals.{Rule, ◌when◌, refuses, grants, Answered}
-use Rattle.rules.specs.declared.RequestAnswer.{RequestAnswer}
-use Rattle.rules.specs.declared.ReleaseAnswer.{ReleaseAnswer}
-use Rattle.rules.specs.Replies.{PathReply, answer_of, path_after, ReleaseReply, release_answer_of}
+use Rattle.area.specs.Refusals.{Rule, ◌when◌, Reply, refuses, grants, Answered}
+use Rattle.network.specs.declared.Grant.{Grant as Numbers}
+use Rattle.rules.specs.Replies.{PathReply, answer_of, path_after, ReleaseReply}
 use Rattle.rules.specs.Allowed.{Grant, search_rules, request_rules, number_rules, release_rules}
 
 -- the books of an area
@@ -26,7 +25,7 @@ quote_rules w work path r = (5 when (WellFormed w → ⊥)) ∷ request_rules (b
 
 -- the network that a request sees on an area
 abbrev pub net_for : List ℕ → Request → Net
-net_for w r = net (books_in w) r.units
+net_for w r = net (books_in w) r.terms.units
 
 -- a quote's reply
 abbrev pub Quoted : List ℕ → ℕ → ℕ → Request → PathReply → Type 0
@@ -66,21 +65,20 @@ AreaCleared w c (grants _) w' = Rebooked w w' (without c (station w).held)
 -- ---- what an answer means
 -- A call on the words w, with `work` words of work memory, the path buffer l and a request r, answered `said`, and left l' in the
 -- path buffer and w' in the area: there is a reply that the rules allow, and these are its answer and what it leaves.
-pub record QuoteMeans (w : List ℕ) (work : ℕ) (l : List ℕ) (r : Request) (said : RequestAnswer) (l' : List ℕ) : Type 0 where
+pub record QuoteMeans (w : List ℕ) (work : ℕ) (l : List ℕ) (r : Request) (said : Reply Numbers) (l' : List ℕ) : Type 0 where
   pub reply : PathReply
   pub allowed : Quoted w work (length l) r reply
   pub answer : said ≡ answer_of reply
   pub path : l' ≡ path_after reply l
 
-pub record AdmissionMeans (w : List ℕ) (work : ℕ) (l : List ℕ) (c : ℕ) (r : Request) (said : RequestAnswer) (l' w' : List ℕ) : Type 0 where
+pub record AdmissionMeans (w : List ℕ) (work : ℕ) (l : List ℕ) (c : ℕ) (r : Request) (said : Reply Numbers) (l' w' : List ℕ) : Type 0 where
   pub reply : PathReply
   pub allowed : Admitted w work (length l) c r reply
   pub answer : said ≡ answer_of reply
   pub path : l' ≡ path_after reply l
-  pub area : AreaBooked w c r.units reply w'
+  pub area : AreaBooked w c r.terms.units reply w'
 
-pub record ReleaseMeans (w : List ℕ) (c : ℕ) (said : ReleaseAnswer) (w' : List ℕ) : Type 0 where
-  pub reply : ReleaseReply
-  pub allowed : Cleared w c reply
-  pub answer : said ≡ release_answer_of reply
-  pub area : AreaCleared w c reply w'
+-- A release says its whole reply.
+pub record ReleaseMeans (w : List ℕ) (c : ℕ) (said : ReleaseReply) (w' : List ℕ) : Type 0 where
+  pub allowed : Cleared w c said
+  pub area : AreaCleared w c said w'

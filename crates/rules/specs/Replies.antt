@@ -1,20 +1,16 @@
--- What quote, admission and release reply, what they leave in the path buffer, and the enums that the code answers with.
+-- What quote, admission and release reply, what they leave in the path buffer, and what a reply says to the caller.
 -- Assumes nothing.
 use Rattle.std.specs.Prelude.{ℕ, List, [], ◌++◌, length, drop}
 use Rattle.network.specs.Net.{Net, sum}
 use Rattle.network.specs.Reduce.{Outcome, no_path, no_solution, granted}
-use Rattle.network.specs.declared.SearchAnswer.{SearchAnswer as Found}
-use Rattle.network.specs.declared.SearchAnswer.TheVariants as found
+use Rattle.network.specs.declared.answer.Reduction.{Reduction}
+use Rattle.network.specs.declared.Grant.{Grant as Numbers}
 use Rattle.area.specs.Refusals.{Reply, refuses, grants}
-use Rattle.rules.specs.declared.RequestAnswer.{RequestAnswer}
-use Rattle.rules.specs.declared.RequestAnswer.TheVariants.{Refused, Granted}
-use Rattle.rules.specs.declared.ReleaseAnswer.{ReleaseAnswer}
-use Rattle.rules.specs.declared.ReleaseAnswer.TheVariants as release
 
 -- ---- quote and admission
 -- what they grant: the problem, and a path with its delay and cost
 pub record PathGrant : Type 0 where
-  pub problem : ℕ
+  pub problem : Reduction
   pub delay : ℕ
   pub cost : ℕ
   pub path : List ℕ
@@ -23,14 +19,14 @@ abbrev pub PathReply : Type 0
 PathReply = Reply PathGrant
 
 -- the reply that grants the path p by problem `which`, with delay d and cost c
-abbrev pub granting : ℕ → ℕ → ℕ → List ℕ → PathReply
+abbrev pub granting : Reduction → ℕ → ℕ → List ℕ → PathReply
 granting which d c p = grants (record { problem = which; delay = d; cost = c; path = p })
 
--- the code's answer for each reply: document 01's number, or the problem, delay, cost and number of links
-unfoldable pub answer_of : PathReply → RequestAnswer
-answer_of (refuses k) = Refused k
+-- what a reply says to the caller: document 01's number, or the problem, delay, cost and number of links
+unfoldable pub answer_of : PathReply → Reply Numbers
+answer_of (refuses k) = refuses k
 answer_of (grants g) =
-    Granted (record { problem = g.problem; delay = g.delay; cost = g.cost; links = length g.path })
+    grants (record { problem = g.problem; delay = g.delay; cost = g.cost; links = length g.path })
 
 -- the words of the path that it grants
 abbrev pub path_of : PathReply → List ℕ
@@ -43,12 +39,6 @@ path_after (refuses k) l = l
 path_after (grants g) l = g.path ++ drop (length g.path) l
 
 -- ---- what the search found
--- document 01's number and values for each case of the search's answer
-unfoldable pub numbered : Found → RequestAnswer
-numbered found.NoPath = Refused 9
-numbered found.NoSolution = Refused 10
-numbered (found.Granted g) = Granted g
-
 -- the reply for what a search on a network found
 unfoldable pub reply_of : Net → Outcome → PathReply
 reply_of g no_path = refuses 9
@@ -62,7 +52,3 @@ ReleaseReply = Reply (Unit {0})
 
 abbrev pub releases : ReleaseReply
 releases = grants tt
-
-unfoldable pub release_answer_of : ReleaseReply → ReleaseAnswer
-release_answer_of (refuses k) = release.Refused k
-release_answer_of (grants _) = release.Released

@@ -2,7 +2,7 @@
 -- Assumes nothing.
 use Rattle.std.specs.Prelude.{ℕ, ◌<◌, ◌≡◌, Bool, not, ◌&&◌, ltb, eqb}
 use Rattle.network.specs.declared.Request.{Request}
-use Rattle.network.specs.Reduce.{delay_bound, cost_bound, TermsInRange}
+use Rattle.network.specs.Reduce.{TermsInRange}
 use Rattle.network.specs.Ranges.{terms_fit}
 
 -- a request among n nodes
@@ -16,4 +16,4 @@ unfoldable pub request_fits : ℕ → Request → Bool
 unfolding terms_fit
 request_fits n r =
     ltb r.source n && (ltb r.target n && (not (eqb r.source r.target)
-    && terms_fit r.units (delay_bound r) (cost_bound r) r.coefficient))
+    && terms_fit r.terms))

@@ -1,10 +1,10 @@
 -- The sample table: document 01's six service classes, as rows and as the words that a class table has for them.
 -- Assumes nothing.
 use Rattle.std.specs.Prelude.{ℕ, List, [], ◌∷◌}
-use Rattle.rules.specs.declared.Service.{Service}
-use Rattle.rules.specs.ClassTable.{asks}
+use Rattle.network.specs.declared.Terms.{Terms}
+use Rattle.network.specs.Reduce.{asks}
 
-abbrev pub sample_rows : List Service
+abbrev pub sample_rows : List Terms
 sample_rows =
     -- card, PIN, tank
     asks 1 400 60 8
@@ -17,7 +17,7 @@ sample_rows =
     ∷ []
 
 -- four words a row, one row behind the other
-abbrev pub words_of : List Service → List ℕ
+abbrev pub words_of : List Terms → List ℕ
 words_of [] = []
 words_of (s ∷ rows) = s.units ∷ s.delay_bound ∷ s.cost_bound ∷ s.coefficient ∷ words_of rows
 

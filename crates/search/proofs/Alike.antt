@@ -12,12 +12,12 @@ use Rattle.network.specs.Loops.{iter, first}
 use Rattle.network.specs.Net.{Net}
 use Rattle.network.specs.NodeSet.{member, inserted}
 use Rattle.network.specs.Scale.{scaled}
-use Rattle.network.specs.Problem.{Problem}
 use Rattle.network.specs.Cut.{follow}
 use Rattle.network.specs.Reduce.{delay_bound, cost_bound, problem_one, problem_two}
 use Rattle.network.proofs.Tests.{by_lt}
 use Rattle.network.proofs.Loops.{iter_done, iter_same, first_same}
 use Rattle.search.specs.Result.{Alike}
+use Rattle.search.specs.Solver.{SameEdges, SameWeights}
 use Rattle.search.specs.Distance.{spread_link, spread, layer, distance}
 
 -- two loops of equally many turns that agree
@@ -25,14 +25,12 @@ pub loop_depends : {A : Type 0} (f h : ℕ → A → A) (n m : ℕ) → n ≡ m 
     → iter f n a ≡ iter h m a
 loop_depends f h n m e same a = iter_done h n m a (iter_same f h n same a) e
 
--- two problems that agree at every link below n
-pub record AlikeProblems (n : ℕ) (q p : Problem) : Type 0 where
-  pub x : q.x ≡ p.x
-  pub bound : q.bound ≡ p.bound
-  pub kept : (i : ℕ) → i < n → q.kept i ≡ p.kept i
-  pub scaled_by : (i : ℕ) → i < n → q.scaled_by i ≡ p.scaled_by i
+-- networks that are alike have the same edges
+pub alike_edges : (g o : Net) → Alike g o → SameEdges g o
+alike_edges g o same =
+    record { nodes = same.nodes; links = same.links; tail = same.tail; head = same.head; usable = same.usable }
 
-module _ (g o : Net) (same : Alike g o) where
+module _ (g o : Net) (same : SameEdges g o) where
   -- ---- the distance
   spread_depends : (set : ℕ) → spread g set ≡ spread o set
   unfolding spread
@@ -50,17 +48,6 @@ module _ (g o : Net) (same : Alike g o) where
       first_same (λ k. member (layer g s k) t) (λ k. member (layer o s k) t) g.nodes (λ k _. rw layer_depends)
       ∙ ap (first (λ k. member (layer o s k) t)) same.nodes
 
-  -- ---- the two problems
-  pub one_depends : (r : Request) (x : ℕ) → AlikeProblems g.links (problem_one g r x) (problem_one o r x)
-  unfolding problem_one
-  one_depends r x =
-      record { x = refl; bound = refl; kept = same.delay; scaled_by = λ i low. ap (scaled x (cost_bound r)) (same.cost i low) }
-
-  pub two_depends : (r : Request) (x : ℕ) → AlikeProblems g.links (problem_two g r x) (problem_two o r x)
-  unfolding problem_two
-  two_depends r x =
-      record { x = refl; bound = refl; kept = same.cost; scaled_by = λ i low. ap (scaled x (delay_bound r)) (same.delay i low) }
-
   -- ---- the path by the notes: it ends at a word that is no link
   pub follow_depends : (next : List ℕ) (t f v : ℕ) → follow g next t f v ≡ follow o next t f v
   unfolding follow
@@ -70,3 +57,15 @@ module _ (g o : Net) (same : Alike g o) where
       by_lt i g.links
       (λ low. cc (same.head i low, follow_depends next t f (g.head i)))
       (λ high. simp (le-leb g.links i high, le-leb o.links i (rw same.links at high), or-true))
+
+-- ---- the two problems
+module _ (g o : Net) (same : Alike g o) (r : Request) (x : ℕ) where
+  pub one_depends : SameWeights g.links (problem_one g r x) (problem_one o r x)
+  unfolding problem_one
+  one_depends =
+      record { x = refl; bound = refl; kept = same.delay; scaled_by = λ i low. ap (scaled x (cost_bound r)) (same.cost i low) }
+
+  pub two_depends : SameWeights g.links (problem_two g r x) (problem_two o r x)
+  unfolding problem_two
+  two_depends =
+      record { x = refl; bound = refl; kept = same.cost; scaled_by = λ i low. ap (scaled x (delay_bound r)) (same.delay i low) }

@@ -2,12 +2,14 @@
 -- with its loops cut is a path of no more links.
 -- Assumes nothing.
 use mathlib.Core.Path.{◌≡◌, refl, sym, ◌∙◌}
-use mathlib.Core.Bool.{true, false, ◌&&◌, false≢true}
+use mathlib.Core.Bool.{Bool, true, false, ◌&&◌, false≢true}
 use mathlib.Core.List.{List, [], ◌∷◌, ◌++◌}
 use Prim.Native.Nat.{ℕ, zero, suc, ◌+◌, ◌-◌, ◌≤◌, ◌<◌}
 use native.Mathlib.Nat.{le_refl, add-zero}
 use native.Mathlib.Omega.{arith}
 use lib.ListN.{length, length-append}
+use borrow.Author.Tests.{lt-ltb, le-ltb}
+use Rattle.std.specs.Prelude.{Option, Some, None}
 use Rattle.network.specs.Limits.{most_nodes}
 use Rattle.network.specs.Loops.{iter}
 use Rattle.network.specs.Net.{Net, Ends, Walk, IsPath, sum}
@@ -15,11 +17,11 @@ use Rattle.network.specs.NodeSet.{member, inserted}
 use Rattle.network.specs.Problem.{Distance, NoPath}
 use Rattle.network.specs.Cut.{cut}
 use Rattle.network.proofs.Tests.{by_test, by_eq, by_lt, fst_of, snd_of}
-use Rattle.network.proofs.Loops.{iter_keeps, iter_brings, first_passes, first_before}
+use Rattle.network.proofs.Loops.{iter_keeps, iter_brings, first_passes, first_before, first_here, first_nowhere}
 use Rattle.network.proofs.NodeSet.{member_empty, member_inserted, member_others, inserted_keeps}
 use Rattle.network.proofs.Short.{path_short}
 use Rattle.network.proofs.Cut.{cut_walk, cut_path}
-use Rattle.search.specs.Distance.{leaves, spread_link, spread, layer, distance}
+use Rattle.search.specs.Distance.{leaves, spread_link, spread, layer, distance, distance_if_any}
 
 -- the number of a walk's links is the sum of ones
 ones : (p : List ℕ) → sum (λ i. 1) p ≡ length p
@@ -134,3 +136,16 @@ module _ (g : Net) (ends : Ends g) (few : g.nodes ≤ most_nodes) (s t : ℕ) (s
 
   pub distance_none : g.nodes ≤ distance g s t → NoPath g s t
   distance_none high p h = omega (arith, distance_least g s t p h, path_short g ends s t s_low p h)
+
+-- ---- the layers one after another: the first that has t is found, or none has it
+module _ (g : Net) (s t : ℕ) where
+  abbrev has : ℕ → Bool
+  has k = member (layer g s k) t
+
+  pub distance_here : (k : ℕ) → ((j : ℕ) → j < k → has j ≡ false) → k < g.nodes → has k ≡ true → Some k ≡ distance_if_any g s t
+  unfolding distance_if_any distance
+  distance_here k none low here = rw (← first_here has g.nodes k none low here) (simp (lt-ltb _ _ low))
+
+  pub distance_nowhere : ((j : ℕ) → j < g.nodes → has j ≡ false) → ◌≡◌ {A = Option ℕ} None (distance_if_any g s t)
+  unfolding distance_if_any distance
+  distance_nowhere none = rw (← first_nowhere has g.nodes none) (simp (le-ltb _ _ (le_refl g.nodes)))

@@ -1,60 +1,22 @@
--- The pass along the noted links. One turn over plain values: the pass stays at t and where the note is no link, else
--- it takes the link. The whole pass gives the followed links and their own sums.
+-- The pass along the noted links gives the links that follow them from s to t, and their own sums.
 -- Assumes nothing.
 use mathlib.Core.Path.{◌≡◌, refl, subst, ◌∙◌}
 use mathlib.Core.Bool.{Bool, true, ◌||◌}
 use mathlib.Core.List.{List, [], ◌∷◌, ◌++◌}
-use Prim.Native.Nat.{ℕ, zero, suc, ◌+◌, ◌-◌, ◌≤◌, ◌<◌}
+use Prim.Native.Nat.{ℕ, zero, suc, ◌+◌, ◌-◌, ◌≤◌}
 use native.Mathlib.Nat.{zero-add}
 use native.Mathlib.Numerals.{add-one}
 use native.Mathlib.Omega.{arith}
 use lib.Dec.{eqb, leb}
 use lib.ListN.{length, get_or, set, drop}
 use lib.Seq.{sets, sets-eq}
-use borrow.Author.Tests.{eq-eqb, ne_eqb, le-leb, lt-leb}
 use Rattle.network.specs.Loops.{iter}
 use Rattle.network.specs.Net.{Net, sum}
 use Rattle.network.specs.Cut.{follow}
-use Rattle.network.specs.Words.{field, net_of, LinkTable}
 use Rattle.network.proofs.Loops.{iter_none, iter_done, iter_stays, iter_first}
 use Rattle.network.proofs.Tests.{by_bool, by_test}
 use Rattle.search.specs.declared.PartialPath.{PartialPath}
-use Rattle.search.specs.Forward.{OnWay, advanced, path_on, path_start, forwarded}
-
--- ---- one turn
-module _ (n m : ℕ) (links next : List ℕ) (t : ℕ) (w : PartialPath) (path : List ℕ) where
-  -- the turn as the code's contract has it
-  abbrev Advanced : PartialPath → List ℕ → Type 0
-  Advanced r after = (r, after) ≡ advanced (net_of n m links []) next t (w, path)
-
-  -- at t
-  pub advance_home : w.node ≡ t → Advanced w path
-  unfolding advanced
-  advance_home h = simp (eq-eqb _ _ h)
-
-  module _ (i : ℕ) (away : w.node ≡ t → ⊥) (noted_here : i ≡ get_or next w.node 0) where
-    -- the note is no link
-    pub advance_unlisted : m ≤ i → Advanced w path
-    unfolding advanced net_of
-    advance_unlisted h = simp (ne_eqb _ _ away, ← noted_here, le-leb _ _ h)
-
-    -- one link more: a listed link leads to a node and adds a million at most to each sum
-    module _ (k head delay cost : ℕ) where
-      abbrev on : PartialPath
-      on = record { node = head; links = w.links + 1; delay = w.delay + delay; cost = w.cost + cost }
-
-      pub advance_on : LinkTable n m links → OnWay n k w → i < m → head ≡ field links i 1 → delay ≡ field links i 2 → cost ≡ field links i 3
-          → Advanced on (set path w.links (get_or next w.node 0)) × OnWay n (k + 1) on
-      unfolding advanced path_on net_of
-      advance_on table way h to slow dear = (
-        simp (ne_eqb _ _ away, ← noted_here, lt-leb _ _ h, ← to, ← slow, ← dear),
-        record {
-          node = omega (arith, table.words.to i h);
-          links = omega arith;
-          delay = omega (arith, table.words.delay i h);
-          cost = omega (arith, table.words.cost i h);
-        },
-      )
+use Rattle.search.specs.Forward.{advanced, path_on, path_start, forwarded}
 
 -- ---- the whole pass
 module _ (g : Net) (next : List ℕ) (t : ℕ) where

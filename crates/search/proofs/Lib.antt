@@ -1,8 +1,7 @@
 pub mod ebf
-mod Distance
+pub mod Distance
 mod Heuristic
 mod Alike
 pub mod Reductions
 pub mod Result
 pub mod Forward
-mod Unflagged

@@ -4,12 +4,15 @@
 -- Assumes nothing.
 use Prim.Native.Nat.{ℕ}
 use mathlib.Core.Path.{◌≡◌, refl}
+use mathlib.Core.Bool.{Bool}
 use mathlib.Core.List.{List}
 use mathlib.Core.Logic.{◌⊎◌, inl, inr}
 use Rattle.network.proofs.Tests.{zero_one}
 use Rattle.network.specs.Net.{Net}
-use Rattle.network.specs.Words.{net_of}
+use Rattle.network.specs.Words.{net_of, LinkTable}
 use Rattle.network.specs.declared.Request.{Request}
+use Rattle.network.specs.declared.answer.Reduction.{Reduction}
+use Rattle.network.specs.declared.answer.Reduction.TheVariants.{One, Two}
 use Rattle.network.specs.Problem.{NoPath}
 use Rattle.network.specs.Reduce.{Outcome, no_path, no_solution, granted, Found}
 use Rattle.network.proofs.Bounds.{one_distance, found_within, found_enough}
@@ -19,19 +22,19 @@ use Rattle.search.proofs.ebf.Outcomes.{net_ends}
 
 module _ (g : Net) (r : Request) where
   -- one problem's number says which problem granted
-  granted_one : (o : Outcome) → Found g r o → (p : List ℕ) → o ≡ granted 1 p → GrantedByOne g r p
+  granted_one : (o : Outcome) → Found g r o → (p : List ℕ) → o ≡ granted One p → GrantedByOne g r p
   granted_one o (Found.none h) p e = absurd (zero_one cc)
   granted_one o (Found.unsolved k far h h') p e = absurd (zero_one cc)
   granted_one o (Found.by_one k p' far best) p e = let same : p' ≡ p = cc in rw (← same) (k, far, best)
   granted_one o (Found.by_two k p' far h best) p e = absurd (zero_one cc)
 
-  granted_two : (o : Outcome) → Found g r o → (p : List ℕ) → o ≡ granted 2 p → GrantedByTwo g r p
+  granted_two : (o : Outcome) → Found g r o → (p : List ℕ) → o ≡ granted Two p → GrantedByTwo g r p
   granted_two o (Found.none h) p e = absurd (zero_one cc)
   granted_two o (Found.unsolved k far h h') p e = absurd (zero_one cc)
   granted_two o (Found.by_one k p' far best) p e = absurd (zero_one cc)
   granted_two o (Found.by_two k p' far h best) p e = let same : p' ≡ p = cc in rw (← same) (k, far, h, best)
 
-  granted_either : (o : Outcome) → Found g r o → (which : ℕ) (p : List ℕ) → o ≡ granted which p → (which ≡ 1) ⊎ (which ≡ 2)
+  granted_either : (o : Outcome) → Found g r o → (which : Reduction) (p : List ℕ) → o ≡ granted which p → (which ≡ One) ⊎ (which ≡ Two)
   granted_either o (Found.none h) which p e = absurd (zero_one cc)
   granted_either o (Found.unsolved k far h h') which p e = absurd (zero_one cc)
   granted_either o (Found.by_one k p' far best) which p e = inl (cc)
@@ -79,19 +82,21 @@ module _ (g : Net) (r : Request) where
         enough = found_enough g r ok.coefficient_some ok.delay_some ok.cost_some ok.apart _ found;
       }
 
--- it depends, the granted path included, on the network and the request alone, and of the network only on n, which links are usable, the links' ends, delays and costs
+-- it depends, the granted path included, on the network and the request alone, and of the network only on n, which links
+-- are usable, the links' ends, delays and costs
 pub outcome_depends : (g o : Net) → Alike g o → (r : Request) → outcome g r ≡ outcome o r
 unfolding outcome
 outcome_depends = search_depends
 
--- what the code's `requires` asks is enough for it
-pub ready_searchable : (n m : ℕ) (links usable work path : List ℕ) (r : Request) → Ready n m links usable work path r
+-- what the code's `requires` asks of a link table is enough for it
+pub ready_searchable : (n m : ℕ) (links : List ℕ) (usable : List Bool) (work path : List ℕ) (r : Request) → LinkTable n m links
+    → Ready n work path r
     → Searchable (net_of n m links usable) r
 unfolding net_of
-ready_searchable n m links usable work path r h =
+ready_searchable n m links usable work path r table h =
     record {
-      ends = net_ends n m links usable h.table;
-      few = h.table.nodes_most;
+      ends = net_ends n m links usable table;
+      few = table.nodes_most;
       source = h.source;
       target = h.target;
       apart = h.apart;

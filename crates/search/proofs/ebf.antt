@@ -11,6 +11,5 @@ pub mod Settled
 pub mod Rows
 pub mod Steps
 pub mod Turn
-pub mod Unflagged
 pub mod Outcomes
 pub mod Alike

@@ -4,8 +4,8 @@ use Rattle.std.specs.Prelude.{ℕ, ◌+◌, ◌*◌, ◌-◌, ◌≤◌, ◌<◌
 use Rattle.network.specs.Limits.{most_cost, most_delay}
 use Rattle.network.specs.Loops.{iter}
 use Rattle.network.specs.Net.{Net}
-use Rattle.network.specs.declared.SearchAnswer.{SearchAnswer}
-use Rattle.network.specs.declared.SearchAnswer.TheVariants.{Granted}
+use Rattle.network.specs.declared.Grant.{Grant}
+use Rattle.network.specs.declared.answer.Reduction.{Reduction}
 use Rattle.search.specs.declared.PartialPath.{PartialPath}
 
 abbrev pub path_start : ℕ → PartialPath
@@ -35,5 +35,5 @@ pub record OnWay (n k : ℕ) (w : PartialPath) : Type 0 where
   pub cost : w.cost ≤ most_cost * w.links
 
 -- a grant of the problem `which`, from the pass along its path
-abbrev pub grant_of : ℕ → PartialPath → SearchAnswer
-grant_of which w = Granted (record { problem = which; delay = w.delay; cost = w.cost; links = w.links })
+abbrev pub grant_of : Reduction → PartialPath → Grant
+grant_of which w = record { problem = which; delay = w.delay; cost = w.cost; links = w.links }

@@ -6,5 +6,6 @@ pub mod Heuristic
 pub mod Distance
 pub mod Roles
 pub mod Forward
+pub mod Hops
 pub mod Solver
 pub mod ebf

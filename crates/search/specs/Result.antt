@@ -2,22 +2,23 @@
 -- relies on, what it finds and answers, and what that may depend on. It names no table; `outcome` is opened only where a
 -- case is computed.
 -- Assumes nothing.
-use Rattle.std.specs.Prelude.{ℕ, ◌≤◌, ◌<◌, ◌≡◌, List, ◌++◌, ◌⊎◌, ◌↔◌, length, drop}
+use Rattle.std.specs.Prelude.{ℕ, ◌≤◌, ◌<◌, ◌≡◌, List, ◌++◌, ◌⊎◌, ◌↔◌, length, drop, Ok, Err, Result as Answer}
 use Rattle.network.specs.Limits.{most_nodes, path_words, work_words}
 use Rattle.network.specs.Net.{Net, Ends, IsPath, sum}
-use Rattle.network.specs.Words.{LinkTable}
 use Rattle.network.specs.Problem.{Best, NoPath, NoSolution, Distance}
 use Rattle.network.specs.declared.Request.{Request}
-use Rattle.network.specs.declared.SearchAnswer.{SearchAnswer}
-use Rattle.network.specs.declared.SearchAnswer.TheVariants as answer
+use Rattle.network.specs.declared.Grant.{Grant}
+use Rattle.network.specs.declared.answer.NoRoute.{NoRoute}
+use Rattle.network.specs.declared.answer.NoRoute.TheVariants as why
+use Rattle.network.specs.declared.answer.Reduction.{Reduction}
+use Rattle.network.specs.declared.answer.Reduction.TheVariants.{One, Two}
 use Rattle.network.specs.Reduce.{delay_bound, cost_bound, TermsInRange, one, two, WithinBounds, Enough, Outcome, no_path, no_solution, granted}
 use Rattle.search.specs.Heuristic.{search}
 
 -- ---- what it relies on
--- the ranges and lengths that `route::search` requires; the upper crate checks them before it searches
-pub record Ready (n m : ℕ) (links usable work path : List ℕ) (r : Request) : Type 0 where
-  pub table : LinkTable n m links
-  pub flags : m ≤ length usable
+-- the ranges and lengths that `route::search` requires, of a network of n nodes; the upper crate checks them before it
+-- searches
+pub record Ready (n : ℕ) (work path : List ℕ) (r : Request) : Type 0 where
   pub memory : work_words ≤ length work
   pub buffer : path_words ≤ length path
   pub source : r.source < n
@@ -34,7 +35,7 @@ pub record Searchable (g : Net) (r : Request) : Type 0 where
   pub apart : r.source ≡ r.target → ⊥
   pub delay_some : 0 < delay_bound r
   pub cost_some : 0 < cost_bound r
-  pub coefficient_some : 0 < r.coefficient
+  pub coefficient_some : 0 < r.terms.coefficient
 
 -- ---- what it finds
 -- the outcome of a search: a function of the network and the request alone
@@ -64,14 +65,14 @@ module _ (g : Net) (r : Request) where
     pub nowhere : (o ≡ no_path) ↔ NoPath g r.source r.target
     pub unsolved : (o ≡ no_solution) ↔ Unsolved
     -- the grants
-    pub by_one : (p : List ℕ) → o ≡ granted 1 p → GrantedByOne p
-    pub by_two : (p : List ℕ) → o ≡ granted 2 p → GrantedByTwo p
-    pub no_other : (which : ℕ) (p : List ℕ) → o ≡ granted which p → (which ≡ 1) ⊎ (which ≡ 2)
+    pub by_one : (p : List ℕ) → o ≡ granted One p → GrantedByOne p
+    pub by_two : (p : List ℕ) → o ≡ granted Two p → GrantedByTwo p
+    pub no_other : (which : Reduction) (p : List ℕ) → o ≡ granted which p → (which ≡ One) ⊎ (which ≡ Two)
     -- Theorem 1: both original bounds are met
-    pub within : (which : ℕ) (p : List ℕ) → o ≡ granted which p → WithinBounds g r p
+    pub within : (which : Reduction) (p : List ℕ) → o ≡ granted which p → WithinBounds g r p
     -- Theorem 2: an overqualified path is always enough
     pub enough : (k : ℕ) → Distance g r.source r.target k → (p : List ℕ) → IsPath g r.source r.target p → Enough g r k p
-        → (which : ℕ) × (path : List ℕ) × (o ≡ granted which path)
+        → (which : Reduction) × (path : List ℕ) × (o ≡ granted which path)
 
 -- ---- what it depends on
 -- two networks that agree in all that a search may depend on: document 01's n, which links are usable, the links' ends,
@@ -86,12 +87,12 @@ pub record Alike (g o : Net) : Type 0 where
   pub cost : (i : ℕ) → i < g.links → g.cost i ≡ o.cost i
 
 -- ---- what it answers
--- the code's enum for each outcome: the totals are the path's own sums
-unfoldable pub search_answer_of : Net → Outcome → SearchAnswer
-search_answer_of g no_path = answer.NoPath
-search_answer_of g no_solution = answer.NoSolution
+-- the code's answer for each outcome: the totals are the path's own sums
+unfoldable pub search_answer_of : Net → Outcome → Answer Grant NoRoute
+search_answer_of g no_path = Err why.NoPath
+search_answer_of g no_solution = Err why.NoSolution
 search_answer_of g (granted which p) =
-    answer.Granted (record { problem = which; delay = sum g.delay p; cost = sum g.cost p; links = length p })
+    Ok (record { problem = which; delay = sum g.delay p; cost = sum g.cost p; links = length p })
 
 -- a granted path stands in the first words of the path buffer, the others keep theirs; else no word changes
 unfoldable pub path_after : Outcome → List ℕ → List ℕ

@@ -1,47 +1,44 @@
--- The two problems of a request as one: a weight that is kept and a weight that is scaled, each by its word of a link.
+-- The two problems of a request as one: a weight that is kept and a weight that is scaled, each with its bound.
 -- Assumes nothing.
-use Rattle.std.specs.Prelude.{ℕ, ◌≤◌, ◌<◌, List}
-use Rattle.network.specs.Limits.{most_bound}
+use Rattle.std.specs.Prelude.{ℕ}
+use Rattle.network.specs.Net.{Net}
 use Rattle.network.specs.Problem.{Problem}
 use Rattle.network.specs.Scale.{scaled}
-use Rattle.network.specs.Words.{field, net_of}
 use Rattle.network.specs.Reduce.{delay_bound, cost_bound, Outcome}
+use Rattle.network.specs.declared.answer.Reduction.{Reduction}
+use Rattle.network.specs.declared.answer.Reduction.TheVariants.{One, Two}
 use Rattle.network.specs.declared.Request.{Request}
 use Rattle.search.specs.ebf.Solve.{solve}
 use Rattle.search.specs.Heuristic.{outcome_of}
-use Rattle.search.specs.declared.Roles.{Roles}
 
--- problem one keeps the delay, word 2 of a link, and scales the cost, word 3; problem two has the weights exchanged
-abbrev pub roles_one : Request → Roles
-roles_one r =
-    record { which = 1; kept = 2; kept_bound = delay_bound r; other = 3; other_bound = cost_bound r }
+-- what problem one has, or what problem two has in its place
+abbrev pub by_problem : Reduction → ℕ → ℕ → ℕ
+by_problem One one two = one
+by_problem Two one two = two
 
-abbrev pub roles_two : Request → Roles
-roles_two r =
-    record { which = 2; kept = 3; kept_bound = cost_bound r; other = 2; other_bound = delay_bound r }
+-- problem one keeps the delay and scales the cost; problem two has the weights exchanged
+abbrev pub kept_weight : Net → Reduction → ℕ → ℕ
+kept_weight g which i = by_problem which (g.delay i) (g.cost i)
 
--- each word is a link's delay or its cost, and each bound in its range
-pub record Weights (w : Roles) : Type 0 where
-  pub kept_low : 2 ≤ w.kept
-  pub kept_high : w.kept ≤ 3
-  pub other_low : 2 ≤ w.other
-  pub other_high : w.other ≤ 3
-  pub kept_some : 0 < w.kept_bound
-  pub kept_most : w.kept_bound ≤ most_bound
-  pub other_some : 0 < w.other_bound
-  pub other_most : w.other_bound ≤ most_bound
+abbrev pub kept_bound : Request → Reduction → ℕ
+kept_bound r which = by_problem which (delay_bound r) (cost_bound r)
 
--- the problem with the weights of these links in the roles w
-unfoldable pub problem_by : List ℕ → ℕ → Roles → Problem
-problem_by links x w =
+abbrev pub other_weight : Net → Reduction → ℕ → ℕ
+other_weight g which i = by_problem which (g.cost i) (g.delay i)
+
+abbrev pub other_bound : Request → Reduction → ℕ
+other_bound r which = by_problem which (cost_bound r) (delay_bound r)
+
+-- the problem with its weights in these roles
+unfoldable pub problem_by : Net → Request → ℕ → Reduction → Problem
+problem_by g r x which =
     record {
-      kept = λ i. field links i w.kept;
-      bound = w.kept_bound;
-      scaled_by = λ i. scaled x w.other_bound (field links i w.other);
+      kept = kept_weight g which;
+      bound = kept_bound r which;
+      scaled_by = λ i. scaled x (other_bound r which) (other_weight g which i);
       x = x;
     }
 
 -- what it answers
-unfoldable pub outcome_by : ℕ → ℕ → List ℕ → List ℕ → Request → ℕ → Roles → Outcome
-outcome_by n m links usable r x w =
-    outcome_of w.which (solve (net_of n m links usable) (problem_by links x w) r.source r.target)
+unfoldable pub outcome_by : Net → Request → ℕ → Reduction → Outcome
+outcome_by g r x which = outcome_of which (solve g (problem_by g r x which) r.source r.target)

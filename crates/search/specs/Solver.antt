@@ -1,38 +1,58 @@
--- The problem that columns of prepared weights describe, and what the functions that solve it rely on.
+-- The network and the problem that a reduced problem's numbers describe, and which request's they are.
 -- Assumes nothing.
-use Rattle.std.specs.Prelude.{ℕ, ◌≤◌, ◌<◌, List, [], length, get_or}
-use Rattle.network.specs.Limits.{most_bound, most_weight, most_x}
+use Rattle.std.specs.Prelude.{ℕ, ◌<◌, ◌≡◌, length}
 use Rattle.network.specs.Net.{Net}
 use Rattle.network.specs.Problem.{Problem}
-use Rattle.network.specs.Words.{net_of, LinkTable}
-use Rattle.search.specs.declared.Reduced.{Reduced}
+use Rattle.search.specs.declared.reduced.Hop.{Hop}
+use Rattle.search.specs.declared.reduced.Reduced.{Reduced}
+use Rattle.search.specs.Hops.{nth_hop}
 
--- the kept weights and the scaled weights as columns with an entry for each link
-unfoldable pub problem_of : Reduced → List ℕ → List ℕ → Problem
-problem_of p kept scaled =
-    record { kept = λ i. get_or kept i 0; bound = p.bound; scaled_by = λ i. get_or scaled i 0; x = p.x }
+-- link i of a reduced problem
+abbrev pub hop : Reduced → ℕ → Hop
+hop p i = nth_hop p.hops.now i
 
--- the network of a reduced problem
-abbrev pub net_in : Reduced → List ℕ → List ℕ → Net
-net_in p links usable = net_of p.nodes p.links links usable
+-- its kept weights and its scaled weights, with their bounds
+unfoldable pub problem_of : Reduced → Problem
+problem_of p =
+    record { kept = λ i. (hop p i).kept; bound = p.bound; scaled_by = λ i. (hop p i).step; x = p.x }
 
--- The network without flags and the problem without kept weights, for the contracts of functions that take no flags
--- and no kept weights: neither a relaxation nor the trace asks which links are usable, and the trace asks for no kept
--- weight. Any flags and any kept weights give the same: `relaxed_unflagged` and `traced_unflagged` in proofs/ebf/.
-abbrev pub unflagged : Reduced → List ℕ → Net
-unflagged p links = net_of p.nodes p.links links []
+-- its nodes, its links with their ends, and which of them are usable. Nothing that reads a table asks for delays and costs
+unfoldable pub net_in : Reduced → Net
+net_in p =
+    record {
+      nodes = p.nodes;
+      links = length p.hops.now;
+      tail = λ i. (hop p i).tail;
+      head = λ i. (hop p i).head;
+      usable = λ i. (hop p i).usable;
+      delay = λ i. 0;
+      cost = λ i. 0;
+    }
 
-abbrev pub scaled_only : Reduced → List ℕ → Problem
-scaled_only p scaled = problem_of p [] scaled
+-- two networks that agree in their nodes, in their links' ends and in which links are usable
+pub record SameEdges (g o : Net) : Type 0 where
+  pub nodes : g.nodes ≡ o.nodes
+  pub links : g.links ≡ o.links
+  pub tail : (i : ℕ) → i < g.links → g.tail i ≡ o.tail i
+  pub head : (i : ℕ) → i < g.links → g.head i ≡ o.head i
+  pub usable : (i : ℕ) → i < g.links → g.usable i ≡ o.usable i
 
--- the numbers, the link table and the kept weights are in their ranges
-pub record Prepared (p : Reduced) (links kept : List ℕ) : Type 0 where
-  pub table : LinkTable p.nodes p.links links
-  pub x : p.x ≤ most_x
-  pub bound : p.bound ≤ most_bound
-  pub weight : (i : ℕ) → i < p.links → get_or kept i 0 ≤ most_weight
+-- two problems that agree at every link below n
+pub record SameWeights (n : ℕ) (q o : Problem) : Type 0 where
+  pub x : q.x ≡ o.x
+  pub bound : q.bound ≡ o.bound
+  pub kept : (i : ℕ) → i < n → q.kept i ≡ o.kept i
+  pub scaled_by : (i : ℕ) → i < n → q.scaled_by i ≡ o.scaled_by i
 
--- the same, and a flag for each link
-pub record Flagged (p : Reduced) (links usable kept : List ℕ) : Type 0 where
-  pub prepared : Prepared p links kept
-  pub flags : p.links ≤ length usable
+-- p has the edges of the network g and the weights of the problem q
+pub record Reduces (g : Net) (q : Problem) (p : Reduced) : Type 0 where
+  pub edges : SameEdges g (net_in p)
+  pub weights : SameWeights g.links q (problem_of p)
+
+-- h is link i of the network g with the weights of the problem q
+pub record Weighed (g : Net) (q : Problem) (i : ℕ) (h : Hop) : Type 0 where
+  pub tail : g.tail i ≡ h.tail
+  pub head : g.head i ≡ h.head
+  pub usable : g.usable i ≡ h.usable
+  pub kept : q.kept i ≡ h.kept
+  pub scaled_by : q.scaled_by i ≡ h.step

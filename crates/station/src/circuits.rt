@@ -1,98 +1,82 @@
-// The check of held circuits: ranges, paths, and that their numbers differ. A path is checked with the node set.
-ghost use Rattle.std.specs.Prelude.{◌≡◌, ◌≤◌, ◌<◌, length};
-ghost use Rattle.area.specs.Layout.{circuit_words, most_circuits};
-ghost use Rattle.area.specs.Station.{circuit_of, circuits};
-ghost use Rattle.area.specs.Formed.{goes_on, path_fits, circuit_fits, held_fit};
-ghost use Rattle.area.specs.Parts.{CheckedLinks, Room, place_fits};
+// A held circuit as its words say it, and its check: ranges, and a path of the table. A path is checked with the node set.
+ghost use Rattle.std.specs.Prelude.{◌≡◌, ℕ, ◌≤◌, ◌<◌, length, get_or, is_some, IfSome};
+ghost use Rattle.network.specs.Limits.{most_links};
+ghost use Rattle.area.specs.Layout.{circuit_words};
+ghost use Rattle.area.specs.Station.{circuit_of};
+ghost use Rattle.area.specs.Formed.{goes_on, path_fits, circuit_fits};
 
-use crate::held::find;
 use crate::layout;
-use links::range::in_range;
-use links::{link, node_set};
+use crate::table::Table;
+use links::node_set::NodeSet;
 use network::limits::{LEAST_PATH_LINKS, LEAST_UNITS, MOST_PATH_LINKS, MOST_UNITS};
 
 // Whether link `i` goes on from node `v`, to a node that is not in `seen`.
-fn goes_on(m: usize, links: &[u32], v: u32, seen: u32, i: usize) -> bool
-    requires { CheckedLinks m links.now }
-    ensures { result ≡ goes_on m links.now v seen i }
+#[tactic(auto, unfolding(area::specs::Formed::goes_on))]
+fn goes_on(table: &Table<'_>, v: usize, seen: NodeSet, i: usize) -> bool
+    ensures { result ≡ goes_on table.now.links.count table.now.links.words.now v seen i }
 {
-    if m <= i {
+    if table.links.count <= i {
         return false;
     }
-    if link::word(links, i, link::FROM) != v {
-        return false;
-    }
-    let to = link::wide(link::word(links, i, link::TO));
-    !node_set::contains(seen, to)
+    let link = table.links.get(i);
+    link.from == v && !seen.contains(link.to)
 }
 
 // Whether `path` is a path of the table.
-fn path_fits(m: usize, links: &[u32], path: &[u32]) -> bool
-    requires checked_links { CheckedLinks m links.now }
-    requires in_bounds { 1 ≤ length path.now }
-    ensures { result ≡ path_fits m links.now path.now }
+fn path_fits(table: &Table<'_>, path: &[u32]) -> bool
+    requires { 1 ≤ length path.now }
+    ensures { result ≡ path_fits table.now.links.count table.now.links.words.now path.now }
 {
-    let start = link::wide(path[0]);
-    if m <= start {
+    let start = path[0] as usize;
+    if table.links.count <= start {
         return false;
     }
-    let mut v = link::word(links, start, link::FROM);
-    let mut seen = node_set::insert(0, link::wide(v));
-    for k in 0..path.len() {
-        let i = link::wide(path[k]);
-        if !goes_on(m, links, v, seen, i) {
+    let mut v = table.links.get(start).from;
+    let mut seen = NodeSet::new().with(v);
+    for &link in path {
+        let i = link as usize;
+        if !goes_on(table, v, seen, i) {
             return false;
         }
-        v = link::word(links, i, link::TO);
-        seen = node_set::insert(seen, link::wide(v));
+        v = table.links.get(i).to;
+        seen = seen.with(v);
     }
     true
 }
 
-// Whether a circuit's words are in range and its path is one of the table.
-fn circuit_fits(m: usize, links: &[u32], circuit: &[u32]) -> bool
-    requires checked_links { CheckedLinks m links.now }
-    requires circuit_len { length circuit.now ≡ circuit_words }
-    ensures { result ≡ circuit_fits m links.now (circuit_of circuit.now) }
-{
-    if !in_range(layout::LEAST_NUMBER, layout::MOST_NUMBER, circuit[0]) {
-        return false;
-    }
-    if !in_range(LEAST_UNITS, MOST_UNITS, circuit[1]) {
-        return false;
-    }
-    if !in_range(LEAST_PATH_LINKS, MOST_PATH_LINKS, circuit[2]) {
-        return false;
-    }
-    let l = link::wide(circuit[2]);
-    path_fits(m, links, layout::part(circuit, 3, l))
+// A circuit. Each link number of its path is below the most links that a table has.
+#[derive(Clone, Copy)]
+pub struct Circuit<'a> {
+    pub number: u32,
+    pub units: u32,
+    pub path: &'a [u32],
+    ghost links: { (k : ℕ) → k < length path.now → get_or path.now k 0 < most_links },
 }
 
-// Whether circuit `j` fits, and none before it has its number.
-fn place_fits(m: usize, links: &[u32], area: &[u32], j: usize) -> bool
-    requires checked_links { CheckedLinks m links.now }
-    requires room { Room area.now j }
-    requires j_lt_most_circuits { j < most_circuits }
-    ensures { result ≡ place_fits m links.now area.now j }
-{
-    let at = layout::place(j);
-    if !circuit_fits(m, links, layout::part(area, at, layout::CIRCUIT_WORDS)) {
-        return false;
-    }
-    find(area, j, area[at]) == j
-}
-
-// Whether the first `h` circuits fit and their numbers differ. The check of an area calls it past its tests of the
-// length, the links and `h`.
-pub fn circuits_fit(m: usize, links: &[u32], area: &[u32], h: usize) -> bool
-    requires checked_links { CheckedLinks m links.now }
-    requires room { Room area.now h }
-    ensures { result ≡ held_fit m links.now (circuits area.now h) }
-{
-    for j in 0..h {
-        if !place_fits(m, links, area, j) {
-            return false;
+impl<'a> Circuit<'a> {
+    // The circuit of these words, where it fits the table.
+    pub fn read(words: &'a [u32], table: &Table<'_>) -> Option<Circuit<'a>>
+        requires { length words.now ≡ circuit_words }
+        ensures fits { is_some result ≡ circuit_fits table.now.links.count table.now.links.words.now (circuit_of words.now) }
+        ensures is { IfSome result (λ c. circuit_of words.now ≡ record { number = c.number; units = c.units; path = c.path.now }) }
+    {
+        let number = words[0];
+        let units = words[1];
+        let count = words[2];
+        if !(layout::LEAST_NUMBER..=layout::MOST_NUMBER).contains(&number)
+            || !(LEAST_UNITS..=MOST_UNITS).contains(&units)
+            || !(LEAST_PATH_LINKS..=MOST_PATH_LINKS).contains(&count)
+        {
+            return None;
         }
+        let path = layout::part(words, 3, count as usize);
+        if !path_fits(table, path) {
+            return None;
+        }
+        Some(Circuit {
+            number,
+            units,
+            path,
+        })
     }
-    true
 }

@@ -1,37 +1,40 @@
 // Load: a link table into an area.
 ghost use Rattle.std.specs.Prelude.{◌≡◌};
+ghost use Rattle.area.specs.Refusals.{numbered};
 ghost use Rattle.area.specs.Load.{load_answer, area_loaded};
 
 use crate::layout;
 use crate::table::links_fit;
-use area::Loading;
-use links::range::in_range;
+use area::Refusal;
+use links::link::Links;
 use network::limits::{LEAST_NODES, LINK_WORDS, MOST_NODES};
 
 // 1, 2, 3 and 4 in this order; else n, m, 0 and the links are written, and all other words keep their contents.
-pub fn load(n: u32, links: &[u32], area: &mut [u32]) -> Loading
-    ensures answer { result ≡ load_answer area.old n links.now }
+pub fn load(n: u32, links: &[u32], area: &mut [u32]) -> Result<(), Refusal>
+    ensures answer { numbered result ≡ load_answer area.old n links.now }
     ensures area { area.new ≡ area_loaded area.old n links.now }
 {
     if area.len() < layout::AREA_WORDS {
-        return Loading::Refused(1);
+        return Err(Refusal::AreaShort);
     }
-    if !in_range(LEAST_NODES, MOST_NODES, n) {
-        return Loading::Refused(2);
+    if !(LEAST_NODES..=MOST_NODES).contains(&n) {
+        return Err(Refusal::NodeCount);
     }
-    if links.len() % LINK_WORDS != 0 {
-        return Loading::Refused(3);
+    if links.len() % LINK_WORDS != 0 || layout::TABLE_WORDS < links.len() {
+        return Err(Refusal::WordCount);
     }
-    if layout::TABLE_WORDS < links.len() {
-        return Loading::Refused(3);
+    let count = links.len() / LINK_WORDS;
+    let table = Links {
+        words: links,
+        count,
+    };
+    if !links_fit(n as usize, &table) {
+        return Err(Refusal::LinkRange);
     }
-    let m = links.len() / LINK_WORDS;
-    if !links_fit(n, m, links) {
-        return Loading::Refused(4);
-    }
-    layout::put(area, layout::FIRST_LINK, links);
+    let end = layout::FIRST_LINK + links.len();
+    area[layout::FIRST_LINK..end].copy_from_slice(links);
     area[layout::NODES] = n;
-    area[layout::LINKS] = m as u32;
+    area[layout::LINKS] = count as u32;
     area[layout::HELD] = 0;
-    Loading::Loaded
+    Ok(())
 }

@@ -1,47 +1,79 @@
-// The ranges of a link table, for loading and for the check of an area.
-ghost use Rattle.std.specs.Prelude.{◌≡◌, ◌*◌, ◌<◌, ◌≤◌, length};
-ghost use Rattle.network.specs.Limits.{link_words, most_links};
-ghost use Rattle.area.specs.Formed.{link_fits, links_fit};
+// A link table and its ranges, for loading and for the reading of an area.
+ghost use Rattle.std.specs.Prelude.{◌≡◌, ℕ, ◌<◌, ◌≤◌, length, is_some, IfSome};
+ghost use Rattle.network.specs.Limits.{most_links, most_nodes};
+ghost use Rattle.network.specs.Words.{field};
+ghost use Rattle.area.specs.Layout.{area_words};
+ghost use Rattle.area.specs.Station.{links_in, table_in};
+ghost use Rattle.area.specs.Formed.{link_fits, links_fit, table_fits};
 
-use links::link;
-use network::limits::{MOST_CAPACITY, MOST_COST, MOST_DELAY};
+use crate::layout;
+use links::link::Links;
+use network::limits::{
+    LEAST_NODES, LINK_WORDS, MOST_CAPACITY, MOST_COST, MOST_DELAY, MOST_LINKS, MOST_NODES,
+};
 
-// Whether link `i` of `m` has both ends among `n` nodes and apart, and its weights and its capacity in range.
-fn link_fits(n: u32, m: usize, links: &[u32], i: usize) -> bool
-    requires links_len { length links.now ≡ link_words * m }
-    requires ranges { (m ≤ most_links) × (i < m) }
-    ensures { result ≡ link_fits (record { nodes = n; links = m; words = links.now }) i }
+// Whether link `i` has both ends among `n` nodes and apart, and its weights and its capacity in range.
+#[tactic(auto, unfolding(area::specs::Formed::link_fits))]
+fn link_fits(n: usize, links: &Links<'_>, i: usize) -> bool
+    requires { i < links.now.count }
+    ensures { result ≡ link_fits (record { nodes = n; links = links.now.count; words = links.now.words.now }) i }
 {
-    let from = link::word(links, i, link::FROM);
-    if n <= from {
-        return false;
-    }
-    let to = link::word(links, i, link::TO);
-    if n <= to {
-        return false;
-    }
-    if from == to {
-        return false;
-    }
-    if MOST_DELAY < link::word(links, i, link::DELAY) {
-        return false;
-    }
-    if MOST_COST < link::word(links, i, link::COST) {
-        return false;
-    }
-    link::word(links, i, link::CAPACITY) <= MOST_CAPACITY
+    let link = links.get(i);
+    link.from < n
+        && link.to < n
+        && link.from != link.to
+        && link.delay <= MOST_DELAY
+        && link.cost <= MOST_COST
+        && link.capacity <= MOST_CAPACITY
 }
 
-// Whether every link fits. Load has counted the words before, and the check of an area lends five for each link.
-pub fn links_fit(n: u32, m: usize, links: &[u32]) -> bool
-    requires links_len { length links.now ≡ link_words * m }
-    requires m_le_most_links { m ≤ most_links }
-    ensures { result ≡ links_fit (record { nodes = n; links = m; words = links.now }) }
+// Whether every link fits `n` nodes.
+pub fn links_fit(n: usize, links: &Links<'_>) -> bool
+    ensures { result ≡ links_fit (record { nodes = n; links = links.now.count; words = links.now.words.now }) }
 {
-    for i in 0..m {
-        if !link_fits(n, m, links, i) {
-            return false;
-        }
+    (0..links.count).all(|i| link_fits(n, links, i))
+}
+
+// The links of an area that is long enough and counts no more of them than a table has.
+pub fn links_in(area: &[u32]) -> Links<'_>
+    requires long { area_words ≤ length area.now }
+    requires few { links_in area.now ≤ most_links }
+    ensures count { result.count ≡ links_in area.now }
+    ensures words { result.words.now ≡ (table_in area.now).words }
+{
+    let count = area[layout::LINKS] as usize;
+    Links {
+        words: layout::part(area, layout::FIRST_LINK, LINK_WORDS * count),
+        count,
     }
-    true
+}
+
+// The links of a table. The ends of each are below the most nodes that a table has.
+#[derive(Clone, Copy)]
+pub struct Table<'a> {
+    pub links: Links<'a>,
+    ghost from: { (i : ℕ) → i < links.count → field links.words.now i 0 < most_nodes },
+    ghost to: { (i : ℕ) → i < links.count → field links.words.now i 1 < most_nodes },
+}
+
+impl<'a> Table<'a> {
+    // The table of an area of full length, where its numbers are in their ranges.
+    pub fn read(area: &'a [u32]) -> Option<Table<'a>>
+        requires { area_words ≤ length area.now }
+        ensures fits { is_some result ≡ table_fits (table_in area.now) }
+        ensures count { IfSome result (λ t. t.links.count ≡ links_in area.now) }
+        ensures words { IfSome result (λ t. t.links.words.now ≡ (table_in area.now).words) }
+    {
+        let nodes = area[layout::NODES];
+        if !(LEAST_NODES..=MOST_NODES).contains(&nodes)
+            || MOST_LINKS < area[layout::LINKS] as usize
+        {
+            return None;
+        }
+        let links = links_in(area);
+        if !links_fit(nodes as usize, &links) {
+            return None;
+        }
+        Some(Table { links })
+    }
 }

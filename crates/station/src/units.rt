@@ -1,75 +1,63 @@
 // Free units: every link's capacity, less the units of each circuit that uses it. Where a link has too few left, the
 // circuits take more than its capacity.
-ghost use Rattle.std.specs.Prelude.{◌≡◌, true, false, ℕ, ◌≤◌, ◌<◌, length, get_or};
-ghost use Rattle.network.specs.Limits.{most_links, most_path_links};
-ghost use Rattle.area.specs.Layout.{circuit_words};
-ghost use Rattle.area.specs.Station.{circuit_of, circuits};
-ghost use Rattle.area.specs.Formed.{units_fit};
-ghost use Rattle.area.specs.Units.{enough, taken, left};
-ghost use Rattle.area.specs.Parts.{CheckedLinks, Held};
+ghost use Rattle.std.specs.Prelude.{◌≡◌, true, ℕ, ◌-◌, ◌&&◌, get_or, is_some, IfSome};
+ghost use Rattle.network.specs.Words.{field};
+ghost use Rattle.area.specs.Station.{circuits};
+ghost use Rattle.area.specs.Books.{usage};
+ghost use Rattle.area.specs.Formed.{held_fit, units_fit};
+ghost use Rattle.area.specs.Units.{enough, taken};
 
-use crate::layout;
-use area::Checked;
-use links::link;
-use links::link::column;
+use crate::circuits::Circuit;
+use crate::places::Places;
+use crate::table::Table;
+use links::link::Links;
 use network::limits::MOST_LINKS;
 
-// Takes `units` of each link of `path`; false where a link has fewer. The area is then not well formed, and nobody reads
-// what is left of `free`.
-fn take_path(free: &mut [u32; MOST_LINKS], path: &[u32], units: u32) -> bool
-    requires { (k : ℕ) → k < length path.now → get_or path.now k 0 < most_links }
-    ensures is { result ≡ enough units path.now free.old }
-    ensures words { result ≡ true → free.new ≡ taken units path.now free.old }
+// The capacity of link `i`; 0 past the links of the table.
+#[tactic(auto, using(network::proofs::Past::past_links))]
+fn capacity(links: &Links<'_>, i: usize) -> u32
+    ensures { result ≡ field links.now.words.now i 4 }
 {
-    for k in 0..path.len() {
-        let i = link::wide(path[k]);
-        if free[i] < units {
+    if i < links.count {
+        links.get(i).capacity
+    } else {
+        0
+    }
+}
+
+// Takes the circuit's units of each link of its path; false where a link has fewer, and then nobody reads what is left of
+// `free`.
+fn take(free: &mut [u32; MOST_LINKS], circuit: &Circuit<'_>) -> bool
+    ensures fits { result ≡ enough circuit.now.units circuit.now.path.now free.old }
+    ensures words { result ≡ true → free.new ≡ taken circuit.now.units circuit.now.path.now free.old }
+{
+    for &link in circuit.path {
+        let i = link as usize;
+        if free[i] < circuit.units {
             return false;
         }
-        free[i] = free[i] - units;
+        free[i] -= circuit.units;
     }
     true
 }
 
-// The same for a circuit's words.
-fn take_circuit(free: &mut [u32; MOST_LINKS], circuit: &[u32]) -> bool
-    requires lengths { (length circuit.now ≡ circuit_words) × (get_or circuit.now 2 0 ≤ most_path_links) }
-    requires by_index { (k : ℕ) → k < get_or circuit.now 2 0 → get_or (circuit_of circuit.now).path k 0 < most_links }
-    ensures is { result ≡ enough (circuit_of circuit.now).units (circuit_of circuit.now).path free.old }
-    ensures words { result ≡ true → free.new ≡ taken (circuit_of circuit.now).units (circuit_of circuit.now).path free.old }
+// Each link's free units, where every circuit fits, their numbers differ, and they take at most each link's capacity. A place
+// is a number: the area is read by index.
+pub fn free_units(table: &Table<'_>, places: &Places<'_>) -> Option<[u32; MOST_LINKS]>
+    ensures fit { let m = table.now.links.count in
+        let words = table.now.links.words.now in
+        let cs = circuits places.now.area.now places.now.count in
+        is_some result ≡ (held_fit m words cs && units_fit m words cs) }
+    ensures free { let words = table.now.links.words.now in
+        let cs = circuits places.now.area.now places.now.count in
+        IfSome result (λ free. (i : ℕ) → get_or free i 0 ≡ field words i 4 - usage cs i) }
 {
-    let l = link::wide(circuit[2]);
-    take_path(free, layout::part(circuit, 3, l), circuit[1])
-}
-
-// An area that is not well formed.
-pub fn unfit() -> Checked
-    ensures formed { result.formed ≡ false }
-    ensures free { (i : ℕ) → get_or result.free i 0 ≡ 0 }
-{
-    Checked {
-        formed: false,
-        free: [0; MOST_LINKS],
-    }
-}
-
-// Whether the first `h` circuits take at most each link's capacity, and what is then left. `check` comes here past its
-// other tests, which are what it requires.
-pub fn take_circuits(m: usize, links: &[u32], area: &[u32], h: usize) -> Checked
-    requires checked_links { CheckedLinks m links.now }
-    requires held { Held m links.now area.now h }
-    ensures formed { result.formed ≡ units_fit m links.now (circuits area.now h) }
-    ensures free { (i : ℕ) → get_or result.free i 0 ≡ left m links.now (circuits area.now h) i }
-{
-    let mut free = column(links, m, link::CAPACITY);
-    for j in 0..h {
-        let at = layout::place(j);
-        if !take_circuit(&mut free, layout::part(area, at, layout::CIRCUIT_WORDS)) {
-            return unfit();
+    let mut free = std::array::from_fn(|i| capacity(&table.links, i));
+    for j in 0..places.count {
+        let circuit = places.get(j, table)?;
+        if !take(&mut free, &circuit) {
+            return None;
         }
     }
-    Checked {
-        formed: true,
-        free: free,
-    }
+    Some(free)
 }

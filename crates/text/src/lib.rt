@@ -1,58 +1,54 @@
-// Numbers and fields as text: each function puts its bytes into a lent slice from a place on, and answers the place
-// behind them. What they require, their callers know by counting: a word has at most ten digits. The class program and
-// `answer_lines` call them.
+// Numbers and fields as text: each function appends its bytes to a text of fixed room. What they require, their callers know
+// by counting: a word has at most ten digits. The class program and `answer_lines` call them.
 #![tactic(auto)]
 
-ghost use Rattle.std.specs.Prelude.{◌≡◌, ◌+◌, ◌*◌, ◌≤◌, length};
-ghost use Rattle.std.proofs.lemmas.List.Edits.{sets};
+ghost use Rattle.std.specs.Prelude.{◌≡◌, ◌+◌, ◌*◌, ◌≤◌, ◌++◌, length};
+ghost use Rattle.arrayvec.specs.ArrayVec.{array_vec_len};
 ghost use Rattle.text_format.specs.Decimal.{decimal};
 ghost use Rattle.text_format.specs.Fields.{field, fields};
 
+use arrayvec::ArrayVec;
+
 // These bytes.
-pub fn put(text: &mut [u8], at: usize, bytes: &[u8]) -> usize
-    requires { at + length bytes.now ≤ length text.old }
-    ensures end { result ≡ at + length bytes.now }
-    ensures text { text.new ≡ sets text.old at bytes.now }
+pub fn put<const N: usize>(text: &mut ArrayVec<u8, N>, bytes: &[u8])
+    requires { array_vec_len text.old + length bytes.now ≤ N }
+    ensures text { text.new.items ≡ text.old.items ++ bytes.now }
+    ensures len { array_vec_len text.new ≡ array_vec_len text.old + length bytes.now }
 {
-    for i in 0..bytes.len() {
-        text[at + i] = bytes[i];
-    }
-    at + bytes.len()
+    let appended = text.try_extend_from_slice(bytes);
+    prove!(appended.is_ok());
 }
 
 // The decimal digits of a number.
-pub fn put_number(text: &mut [u8], at: usize, n: u32) -> usize
-    requires { at + 10 ≤ length text.old }
-    ensures end { result ≡ at + length (decimal n) }
-    ensures most { result ≤ at + 10 }
-    ensures text { text.new ≡ sets text.old at (decimal n) }
+#[tactic(auto, using(text_format::proofs::Digits::digits_decimal, text_format::proofs::Digits::decimal_short))]
+pub fn put_number<const N: usize>(text: &mut ArrayVec<u8, N>, n: u32)
+    requires { array_vec_len text.old + 10 ≤ N }
+    ensures text { text.new.items ≡ text.old.items ++ decimal n }
+    ensures most { array_vec_len text.new ≤ array_vec_len text.old + 10 }
 {
     let mut digits = [0u8; 20];
     let k = io::decimal(n as u64, &mut digits);
-    put(text, at, &digits[..k])
+    put(text, &digits[..k]);
 }
 
 // A space and a number.
-pub fn put_field(text: &mut [u8], at: usize, n: u32) -> usize
-    requires { at + 11 ≤ length text.old }
-    ensures end { result ≡ at + length (field n) }
-    ensures most { result ≤ at + 11 }
-    ensures text { text.new ≡ sets text.old at (field n) }
+#[tactic(auto, unfolding(text_format::specs::Fields::field))]
+pub fn put_field<const N: usize>(text: &mut ArrayVec<u8, N>, n: u32)
+    requires { array_vec_len text.old + 11 ≤ N }
+    ensures text { text.new.items ≡ text.old.items ++ field n }
+    ensures most { array_vec_len text.new ≤ array_vec_len text.old + 11 }
 {
-    let behind = put(text, at, b" ");
-    put_number(text, behind, n)
+    put(text, b" ");
+    put_number(text, n);
 }
 
 // A field for each of these numbers.
-pub fn put_fields(text: &mut [u8], at: usize, numbers: &[u32]) -> usize
-    requires { at + 11 * length numbers.now ≤ length text.old }
-    ensures end { result ≡ at + length (fields numbers.now) }
-    ensures most { result ≤ at + 11 * length numbers.now }
-    ensures text { text.new ≡ sets text.old at (fields numbers.now) }
+pub fn put_fields<const N: usize>(text: &mut ArrayVec<u8, N>, numbers: &[u32])
+    requires { array_vec_len text.old + 11 * length numbers.now ≤ N }
+    ensures text { text.new.items ≡ text.old.items ++ fields numbers.now }
+    ensures most { array_vec_len text.new ≤ array_vec_len text.old + 11 * length numbers.now }
 {
-    let mut end = at;
-    for i in 0..numbers.len() {
-        end = put_field(text, end, numbers[i]);
+    for &n in numbers {
+        put_field(text, n);
     }
-    end
 }

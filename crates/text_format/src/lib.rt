@@ -1,3 +1,3 @@
-// Numbers and fields as bytes: what they are (specs/), with their laws (proofs/). There is no code here; `text` puts them
-// into a lent slice.
+// Numbers and fields as bytes: what they are (specs/), with their laws (proofs/). There is no code here; `text`
+// appends them to a text.
 #![tactic(auto)]

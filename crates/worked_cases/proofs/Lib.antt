@@ -1,1 +1,2 @@
+mod Grounds
 mod CaseLines

@@ -1,17 +1,15 @@
 -- By the theorem of the crate `ledger` the second run's text and bookings follow from the first one's.
-use Rattle.std.proofs.Common.{ap, ◌∙◌}
-use Rattle.std.proofs.lemmas.List.Edits.{sets}
+use Rattle.std.proofs.Common.{◌∙◌}
 use Rattle.call_list.proofs.Runs.{same_bookings}
 use Rattle.history.proofs.Unquoted.{text_again}
 use Rattle.history.proofs.both_runs.Goals as goal
 
-pub returns : goal.returns
-returns g c = record {
-  first = c.run.ensures.area;
-  second = c.run-2.ensures.area;
-  text = c.run.ensures.text;
-  unquoted = c.run-2.ensures.text
-      ∙ ap (sets c.args.unquoted.now 0) (text_again c.args.first.now c.args.second.now c.run.ensures.accepted c.run-2.ensures.accepted);
-  same = same_bookings c.args.first.now c.args.second.now c.run.new.area c.run-2.new.area
-      c.run.ensures.accepted c.run-2.ensures.accepted c.run.ensures.area c.run-2.ensures.area;
-}
+pub returns-clause-unquoted : goal.returns-clause-unquoted
+returns-clause-unquoted g c =
+    c.run-unquoted.ensures.text
+    ∙ text_again c.args.first.now c.args.second.now c.run-text.ensures.accepted c.run-unquoted.ensures.accepted
+
+pub returns-clause-same : goal.returns-clause-same
+returns-clause-same g c =
+    same_bookings c.args.first.now c.args.second.now c.run-text.new.area c.run-unquoted.new.area
+    c.run-text.ensures.accepted c.run-unquoted.ensures.accepted c.run-text.ensures.area c.run-unquoted.ensures.area

@@ -1,5 +1,5 @@
--- What one reduced problem answers depends on the network only through what `Alike` names: the loops over the links run
--- below `links`, and the way back stays at a word that is no link.
+-- What one reduced problem answers depends on the network only through its edges, and on the weights of these: the loops
+-- over the links run below `links`, and the way back stays at a word that is no link.
 -- Assumes nothing.
 use mathlib.Core.Path.{◌≡◌, ap, ◌∙◌}
 use mathlib.Core.Bool.{or-true}
@@ -7,18 +7,18 @@ use mathlib.Core.List.{List}
 use Prim.Native.Nat.{ℕ, ◌+◌, ◌*◌, ◌-◌, ◌<◌}
 use lib.ListN.{replicate}
 use borrow.Author.Tests.{le-leb}
-use Rattle.network.specs.Limits.{most_nodes}
 use Rattle.network.specs.Net.{Net}
 use Rattle.network.specs.Problem.{Problem}
+use Rattle.network.specs.Cut.{Notes, no_notes}
 use Rattle.network.proofs.Tests.{by_lt}
-use Rattle.search.specs.Result.{Alike}
+use Rattle.search.specs.Solver.{SameEdges, SameWeights}
 use Rattle.search.specs.declared.TracePlace.{TracePlace}
 use Rattle.search.specs.ebf.Table.{cell, cells, link_at, initialised, relaxed, offered, column, round, round_count, rounds, ebf}
 use Rattle.search.specs.ebf.Trace.{place_back, step_back, traced}
 use Rattle.search.specs.ebf.Solve.{path_in, answer_in, solve_in, solve}
-use Rattle.search.proofs.Alike.{AlikeProblems, loop_depends, follow_depends}
+use Rattle.search.proofs.Alike.{loop_depends, follow_depends}
 
-module _ (g o : Net) (same : Alike g o) (q p : Problem) (alike : AlikeProblems g.links q p) where
+module _ (g o : Net) (same : SameEdges g o) (q p : Problem) (alike : SameWeights g.links q p) where
   -- ---- the table
   offered_depends : (k i : ℕ) (l : List ℕ) → i < g.links → offered g q k i l ≡ offered o p k i l
   unfolding offered relaxed
@@ -42,7 +42,7 @@ module _ (g o : Net) (same : Alike g o) (q p : Problem) (alike : AlikeProblems g
       ∙ cc
 
   -- ---- the way back: it stays at a word that is no link
-  step_depends : (l : List ℕ) (s : ℕ) (st : TracePlace × List ℕ) → step_back g q l s st ≡ step_back o p l s st
+  step_depends : (l : List ℕ) (s : ℕ) (st : TracePlace × Notes) → step_back g q l s st ≡ step_back o p l s st
   unfolding step_back place_back
   step_depends l s st =
       let i : ℕ = link_at l (cell q.x st.0.node st.0.column) in
@@ -54,13 +54,13 @@ module _ (g o : Net) (same : Alike g o) (q p : Problem) (alike : AlikeProblems g
   unfolding traced
   traced_depends l s t =
       loop_depends (λ _. step_back g q l s) (λ _. step_back o p l s) (cells g.nodes q.x) (cells o.nodes p.x) (cc)
-      (λ _ st _. step_depends l s st) (record { node = t; column = q.x; left = 0 }, replicate most_nodes 0)
+      (λ _ st _. step_depends l s st) (record { node = t; column = q.x }, no_notes)
       ∙ cc
 
   -- ---- the answer
   answer_depends : (l : List ℕ) (s t : ℕ) → answer_in g q l s t ≡ answer_in o p l s t
   unfolding answer_in path_in
-  answer_depends l s t = cc (traced_depends l s t, follow_depends g o same (traced g q l s t).1 t (g.nodes - 1) s)
+  answer_depends l s t = cc (traced_depends l s t, follow_depends g o same (traced g q l s t).1.next t (g.nodes - 1) s)
 
   pub solve_depends : (s t : ℕ) → solve g q s t ≡ solve o p s t
   unfolding solve solve_in

@@ -136,7 +136,7 @@ module _ (g : Net) (q : Problem) (s : ℕ) where
     unfolding answer_in path_in
     answer_same good t t_low =
         rw (← same.numbers t q.x t_low (le_refl _))
-        (both_cond ◌≡◌ (reached q l t) (λ e. ap (λ st. some (follow g st.1 t (g.nodes - 1) s)) (traced_same good t t_low (reached_within q l t e))) refl)
+        (both_cond ◌≡◌ (reached q l t) (λ e. ap (λ st. some (follow g st.1.next t (g.nodes - 1) s)) (traced_same good t t_low (reached_within q l t e))) refl)
 
 pub any_memory : (g : Net) (q : Problem) → Ends g → (s t : ℕ) → s < g.nodes → t < g.nodes → (l l' : List ℕ) → Room g q l → Room g q l'
     → solve_in g q s t l ≡ solve_in g q s t l'

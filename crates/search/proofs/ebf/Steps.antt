@@ -1,30 +1,28 @@
 -- The cases of one relaxation as equations with the model, and what the rounds keep.
 -- Assumes nothing.
-use mathlib.Core.Path.{◌≡◌, refl, ◌∙◌}
-use mathlib.Core.Bool.{Bool, true, false}
-use mathlib.Core.List.{List, []}
+use mathlib.Core.Path.{◌≡◌, ◌∙◌}
+use mathlib.Core.Bool.{true, false}
+use mathlib.Core.List.{List}
 use Prim.Native.Nat.{ℕ, ◌+◌, ◌-◌, ◌≤◌, ◌<◌}
 use native.Mathlib.Nat.{le_trans}
 use native.Mathlib.Omega.{arith}
-use lib.ListN.{length, get_or}
-use borrow.Author.Tests.{le-leb, lt-leb, le-ltb, lt-ltb, eq-eqb, ne_eqb}
+use lib.ListN.{length}
+use borrow.Author.Tests.{le-leb, lt-leb, le-ltb, lt-ltb}
 use Rattle.network.specs.Limits.{work_words}
 use Rattle.network.specs.Loops.{iter}
 use Rattle.network.specs.Net.{Net}
 use Rattle.network.specs.Problem.{Problem}
+use Rattle.network.proofs.Loops.{iter_done, iter_settled}
 use Rattle.network.proofs.Tests.{by_lt}
-use Rattle.search.specs.ebf.Table.{cell, cells, number, put, improved, relaxed, offered, column, round}
+use Rattle.search.specs.ebf.Table.{cell, cells, number, put, improved, relaxed, offered, column, round, rounds}
 use Rattle.search.proofs.ebf.Cells.{cell_inside}
 use Rattle.search.proofs.ebf.Relaxed.{offered_lower}
 use Rattle.search.proofs.ebf.Complete.{iter_lower, column_lower, round_lower}
 use Rattle.search.specs.ebf.Settled.{Settled}
 use Rattle.search.proofs.ebf.Settled.{settled_more}
-use Rattle.network.specs.Words.{field, net_of}
-use Rattle.search.specs.declared.Hop.{Hop}
-use Rattle.search.specs.declared.Reduced.{Reduced}
-use Rattle.search.specs.Solver.{Flagged, net_in, unflagged, problem_of}
+use Rattle.search.specs.declared.reduced.Reduced.{Reduced}
+use Rattle.search.specs.Solver.{hop, net_in, problem_of}
 use Rattle.search.specs.ebf.OnTable.{Bounded}
-use Rattle.search.specs.ebf.Relaxing.{Hopped, Own}
 use Rattle.search.proofs.ebf.Rows.{cells_below}
 
 -- lines 8 to 10, on numbers within the bound or ∞
@@ -75,57 +73,63 @@ module _ (g : Net) (q : Problem) (k i : ℕ) (l : List ℕ) where
   unfolding offered
   offered_usable u = simp u
 
--- the same, of a link as it was read
-module _ (p : Reduced) (links kept scaled : List ℕ) (k i : ℕ) (l : List ℕ) (h : Hop) (r : Hopped links kept scaled i h)
-    (low : k ≤ p.x) where
-  pub hop_over : p.x - k < h.step → l ≡ relaxed (unflagged p links) (problem_of p kept scaled) k i l
-  unfolding net_of problem_of
-  hop_over over = relaxed_over (unflagged p links) (problem_of p kept scaled) k i l (omega (arith, r.step))
+-- the same, of a link as it is listed
+module _ (p : Reduced) (k i : ℕ) (l : List ℕ) (low : k ≤ p.x) where
+  pub hop_over : p.x - k < (hop p i).step → l ≡ relaxed (net_in p) (problem_of p) k i l
+  unfolding problem_of
+  hop_over over = relaxed_over (net_in p) (problem_of p) k i l (omega arith)
 
-  pub hop_within : h.step ≤ p.x - k
-      → {a b : ℕ} → a ≡ cell p.x h.tail k → b ≡ cell p.x h.head (k + h.step)
-      → {l' : List ℕ} → l' ≡ improved a b h.weight p.bound i l
-      → l' ≡ relaxed (unflagged p links) (problem_of p kept scaled) k i l
-  unfolding net_of problem_of
+  pub hop_within : (hop p i).step ≤ p.x - k
+      → {a b : ℕ} → a ≡ cell p.x (hop p i).tail k → b ≡ cell p.x (hop p i).head (k + (hop p i).step)
+      → {l' : List ℕ} → l' ≡ improved a b (hop p i).kept p.bound i l
+      → l' ≡ relaxed (net_in p) (problem_of p) k i l
+  unfolding net_in problem_of
   hop_within within {a} {b} ea eb {l'} e =
-      e ∙ simp (ea, eb, r.tail, r.head, r.weight, r.step)
-      (relaxed_within (unflagged p links) (problem_of p kept scaled) k i l (omega (arith, r.step)))
+      e ∙ simp (ea, eb) (relaxed_within (net_in p) (problem_of p) k i l (omega arith))
 
--- a relaxation does not ask for the flags
-module _ (n m : ℕ) (links usable : List ℕ) where
-  pub relaxed_unflagged : (q : Problem) (k i : ℕ) (l : List ℕ) → relaxed (net_of n m links []) q k i l ≡ relaxed (net_of n m links usable) q k i l
-  unfolding relaxed net_of
-  relaxed_unflagged q k i l = refl
+-- line 23's choice of the same
+module _ (p : Reduced) (k i : ℕ) (l : List ℕ) where
+  pub hop_unusable : (hop p i).usable ≡ false → l ≡ offered (net_in p) (problem_of p) k i l
+  unfolding net_in
+  hop_unusable u = offered_unusable (net_in p) (problem_of p) k i l u
 
--- a link's flag
-module _ (n m : ℕ) (links usable : List ℕ) (i : ℕ) where
-  pub flag_on : get_or usable i 0 ≡ 1 → (net_of n m links usable).usable i ≡ true
-  unfolding net_of
-  flag_on e = eq-eqb _ _ e
-
-  pub flag_off : (get_or usable i 0 ≡ 1 → ⊥) → (net_of n m links usable).usable i ≡ false
-  unfolding net_of
-  flag_off e = ne_eqb _ _ e
+  pub hop_usable : (hop p i).usable ≡ true → relaxed (net_in p) (problem_of p) k i l ≡ offered (net_in p) (problem_of p) k i l
+  unfolding net_in
+  hop_usable u = offered_usable (net_in p) (problem_of p) k i l u
 
 -- one more link of column k was tried, and the links tried before it stay settled
-pub settled_on : (p : Reduced) (links usable kept scaled : List ℕ) → Flagged p links usable kept → (k i : ℕ) → i < p.links
+pub settled_on : (p : Reduced) (k i : ℕ) → i < length p.hops.now
     → (l l' : List ℕ) → work_words ≤ length l
-    → l' ≡ offered (net_in p links usable) (problem_of p kept scaled) k i l
-    → (get_or scaled i 0 ≡ 0 → l ≡ l')
-    → ((j : ℕ) → j < i → Settled (net_in p links usable) (problem_of p kept scaled) k j l)
-    → (j : ℕ) → j < i + 1 → Settled (net_in p links usable) (problem_of p kept scaled) k j l'
-unfolding net_of problem_of cells
-settled_on p links usable kept scaled sound k i low l l' room turn own before =
-    let table = sound.prepared.table in
-    settled_more (net_in p links usable) (problem_of p kept scaled) k i l l' turn own
+    → l' ≡ offered (net_in p) (problem_of p) k i l
+    → ((hop p i).step ≡ 0 → l ≡ l')
+    → ((j : ℕ) → j < i → Settled (net_in p) (problem_of p) k j l)
+    → (j : ℕ) → j < i + 1 → Settled (net_in p) (problem_of p) k j l'
+unfolding net_in problem_of cells
+settled_on p k i low l l' room turn own before =
+    settled_more (net_in p) (problem_of p) k i l l' turn own
     (λ small.
     omega (
       arith,
-      cell_inside p.nodes p.x (field links i 1) (k + get_or scaled i 0) (table.words.to i low) small,
-      cells_below p.nodes p.x table.nodes_most sound.prepared.x,
+      cell_inside p.nodes p.x (hop p i).head (k + (hop p i).step) (p.fits.head i low) small,
+      cells_below p.nodes p.x p.fits.nodes_most p.fits.x_most,
     ))
     before
 
--- nothing was changed: the relaxation gives on what it was handed
-pub own_same : (again : Bool) (step : ℕ) (l : List ℕ) → again ≡ false → Own again step l l
-own_same again step l e = record { words = λ _. refl; handed = e }
+-- b is what n rounds make of a
+pub record Turned (p : Reduced) (n : ℕ) (a b : List ℕ) : Type 0 where
+  pub is : b ≡ iter (λ _. round (net_in p) (problem_of p)) n a
+
+module _ (p : Reduced) (n : ℕ) (a b : List ℕ) (so : Turned p n a b) where
+  pub turned_bounded : Bounded p a → Bounded p b
+  turned_bounded = rounds_bounded p (net_in p) (problem_of p) n a b so.is
+
+  -- rounds that end with one that another would not change
+  pub turned_settled : (d : List ℕ) → n < p.nodes - 1 → d ≡ round (net_in p) (problem_of p) b → round (net_in p) (problem_of p) d ≡ d
+      → d ≡ rounds (net_in p) (problem_of p) a
+  unfolding rounds net_in
+  turned_settled d low turn same = iter_settled (round (net_in p) (problem_of p)) n (p.nodes - 1) a so.is low turn same
+
+  -- all of them
+  pub turned_all : n ≡ p.nodes - 1 → b ≡ rounds (net_in p) (problem_of p) a
+  unfolding rounds net_in
+  turned_all all = iter_done (λ _. round (net_in p) (problem_of p)) n (p.nodes - 1) a so.is all

@@ -12,7 +12,7 @@ use Rattle.network.specs.Lists.{All, Distinct}
 use Rattle.network.specs.Loops.{iter}
 use Rattle.network.specs.Net.{Net, Ends, Walk, sum}
 use Rattle.network.specs.Problem.{Problem}
-use Rattle.network.specs.Cut.{notes}
+use Rattle.network.specs.Cut.{Notes, notes}
 use Rattle.network.proofs.Few.{few}
 use Rattle.network.proofs.Loops.{iter_none, iter_stays, iter_first}
 use Rattle.search.specs.declared.TracePlace.{TracePlace}
@@ -22,8 +22,8 @@ use Rattle.search.proofs.ebf.Cells.{cell_inside, cell_node, cell_column}
 use Rattle.search.proofs.ebf.Good.{at, via, Step, Trace, Good}
 
 -- the trace at v and k, after the links of p
-abbrev pub place : Net → ℕ → ℕ → List ℕ → TracePlace × List ℕ
-place g v k p = (record { node = v; column = k; left = (notes g p).left }, (notes g p).next)
+abbrev pub place : Net → ℕ → ℕ → List ℕ → TracePlace × Notes
+place g v k p = (record { node = v; column = k }, notes g p)
 
 module _ (g : Net) (q : Problem) (s : ℕ) (l : List ℕ) where
   -- where the link kept at a cell comes from: its node and column
@@ -87,7 +87,7 @@ module _ (g : Net) (q : Problem) (s : ℕ) (l : List ℕ) where
 
   -- ---- the turns
   -- at the source the trace stays
-  pub step_home : (st : TracePlace × List ℕ) → st.0.node ≡ s → step_back g q l s st ≡ st
+  pub step_home : (st : TracePlace × Notes) → st.0.node ≡ s → step_back g q l s st ≡ st
   unfolding step_back
   step_home st e = simp (eq-eqb _ _ e)
 
@@ -98,11 +98,11 @@ module _ (g : Net) (q : Problem) (s : ℕ) (l : List ℕ) where
   step_on v k p other st = simp (ne_eqb v s other, lt-leb _ _ st.listed, le-ltb _ _ st.room)
 
   -- what the turns along a trace from v and k give, where the links of p led on to t
-  record TracedTo (t v k : ℕ) (p next r : List ℕ) : Type 0 where
+  record TracedTo (t v k : ℕ) (p : List ℕ) (noted_last : Notes) (r : List ℕ) : Type 0 where
     pub walk : Walk g s t r
     pub kept : sum q.kept r ≤ at q l v k + sum q.kept p
     pub scaled : sum q.scaled_by r ≤ k + sum q.scaled_by p
-    pub noted : next ≡ (notes g r).next
+    pub noted : noted_last ≡ notes g r
 
   traced_back : (n d t v k : ℕ) (p : List ℕ) → Trace g q s l n v k → Walk g v t p
       → (r : List ℕ) × TracedTo t v k p (iter (λ _. step_back g q l s) (d + n) (place g v k p)).1 r
@@ -112,7 +112,7 @@ module _ (g : Net) (q : Problem) (s : ℕ) (l : List ℕ) where
       walk = rw (← tr) w;
       kept = omega arith;
       scaled = omega arith;
-      noted = ap (λ (st : TracePlace × List ℕ). st.1)
+      noted = ap (λ (st : TracePlace × Notes). st.1)
           (sym (iter_stays (λ _. step_back g q l s) 0 d (place g v k p) (place g v k p) (iter_none _ _) (λ i. step_home (place g v k p) tr)));
     },
   )
@@ -127,7 +127,7 @@ module _ (g : Net) (q : Problem) (s : ℕ) (l : List ℕ) where
           walk = rest.1.walk;
           kept = omega (arith, rest.1.kept, tr.1.falls);
           scaled = omega (arith, rest.1.scaled, tr.1.room);
-          noted = ap (λ (st : TracePlace × List ℕ). st.1) turn ∙ rest.1.noted;
+          noted = ap (λ (st : TracePlace × Notes). st.1) turn ∙ rest.1.noted;
         },
       )
 
@@ -136,7 +136,7 @@ module _ (g : Net) (q : Problem) (s : ℕ) (l : List ℕ) where
     pub walk : Walk g s t p
     pub kept : sum q.kept p ≤ at q l t q.x
     pub scaled : sum q.scaled_by p ≤ q.x
-    pub noted : (traced g q l s t).1 ≡ (notes g p).next
+    pub noted : (traced g q l s t).1 ≡ notes g p
 
 pub trace_walk : (g : Net) (q : Problem) → Ends g → (s : ℕ) (l : List ℕ) → Good g q s l → (t : ℕ) → t < g.nodes
     → at q l t q.x ≤ q.bound

@@ -3,7 +3,7 @@
 use Rattle.std.specs.Prelude.{ℕ, ◌+◌, ◌≤◌, ◌<◌, List}
 use Rattle.network.specs.Limits.{most_nodes}
 use Rattle.search.specs.declared.TracePlace.{TracePlace}
-use Rattle.search.specs.declared.Reduced.{Reduced}
+use Rattle.search.specs.declared.reduced.Reduced.{Reduced}
 use Rattle.search.specs.ebf.Table.{cell, number}
 
 -- every number of the table is within the bound, or bound + 1 for ∞

@@ -10,7 +10,7 @@ use Rattle.search.specs.ebf.Trace.{traced}
 
 -- the path that a finished table holds for t
 unfoldable pub path_in : Net → Problem → List ℕ → ℕ → ℕ → List ℕ
-path_in g q l s t = follow g (traced g q l s t).1 t (g.nodes - 1) s
+path_in g q l s t = follow g (traced g q l s t).1.next t (g.nodes - 1) s
 
 -- whether a finished table says that t is reached within both bounds
 abbrev pub reached : Problem → List ℕ → ℕ → Bool

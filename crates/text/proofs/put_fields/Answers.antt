@@ -1,18 +1,13 @@
--- At first all fields are left; a turn puts the next; at the end none is left.
-use Rattle.std.proofs.Common.{refl, arith, rules}
-use Rattle.text_format.proofs.Puts.{fields_turn, fields_end}
+-- At first there are none; a turn puts the next behind those before.
+use Rattle.std.proofs.Common.{append_assoc, append-nil, arith}
+use Rattle.text_format.proofs.Puts.{no_fields, fields_turn}
 use Rattle.text.proofs.put_fields.Goals as goal
 
-pub loop-i-init : goal.loop-i-init
-loop-i-init c = record { left = (refl, refl); most = search rules }
+pub loop-n-init : goal.loop-n-init
+loop-n-init g c = record { text = simp (no_fields, append-nil); most = omega arith }
 
-pub loop-i-preserved : goal.loop-i-preserved
-loop-i-preserved c = record {
-  left = fields_turn c.loop-i.text _ c.args.numbers.now _ c.loop-i.end _ _ c.loop-i.i (omega arith) (c.put_field-end.ensures.end, c.put_field-end.ensures.text) c.loop-i.invariant.left;
+pub loop-n-preserved : goal.loop-n-preserved
+loop-n-preserved g c = record {
+  text = simp (c.put_field.ensures.text, c.loop-n.invariant.text, append_assoc, fields_turn c.args.numbers.now c.loop-n.n-index (omega arith));
   most = omega arith;
 }
-
-pub returns : goal.returns
-returns c =
-    let e = fields_end c.loop-i.text c.args.numbers.now _ c.loop-i.end _ c.loop-i.i (omega arith) c.loop-i.invariant.left in
-    record { end = e.0; most = omega arith; text = e.1 }

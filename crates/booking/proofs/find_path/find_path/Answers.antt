@@ -1,33 +1,43 @@
 -- The link words and flags that are searched are those of the network that the request sees, so what the search finds is
 -- the reply that the books give.
-use Rattle.std.proofs.Common.{arith, ap, ◌∙◌}
-use Rattle.area.proofs.ReadCases.{formed_long, formed_links}
-use Rattle.rules.specs.Replies.{PathReply, numbered, answer_of, path_after}
-use Rattle.rules.proofs.Searching.{search_ready, reply_is}
-use Rattle.rules.proofs.Granting.{numbered_reply, path_reply}
+use Rattle.std.proofs.Common.{◌∙◌, rules}
+use Rattle.rules.proofs.Searching.{table_held, search_ready, failed, found, written}
 use Rattle.booking.proofs.find_path.find_path.Goals as goal
 
-pub bounds-area-0 : goal.bounds-area-0
-bounds-area-0 c = omega (arith, formed_long c.args.area.now c.requires.formed)
+pub invariant_of-network-clause-table : goal.invariant_of-network-clause-table
+invariant_of-network-clause-table c =
+    table_held c.args.station.now.area.now c.args.station.now.formed _ _ _ c.nodes.ensures c.links.ensures.count c.links.ensures.words
 
-pub bounds-area-1 : goal.bounds-area-1
-bounds-area-1 c = omega (arith, formed_long c.args.area.now c.requires.formed)
+pub search-requires : goal.search-requires
+search-requires c =
+    search_ready c.args.station.now.area.now c.args.station.now.formed _ _ _ c.nodes.ensures c.links.ensures.count c.links.ensures.words _ _ _ c.requires
 
-pub part-links-requires : goal.part-links-requires
-part-links-requires c =
-    omega (arith, formed_long c.args.area.now c.requires.formed, formed_links c.args.area.now c.requires.formed)
-
-pub search-found-requires : goal.search-found-requires
-search-found-requires c =
-    search_ready _ _ _ _ _ _ c.requires (omega arith) c.usable-flags.ensures _ _ _ c.wide-n.ensures c.wide-m.ensures
-    c.part-links.ensures
+pub returns-in_err-grant : goal.returns-in_err-grant
+returns-in_err-grant c =
+    let w = c.args.station.now.area.now in
+    let fits = c.requires in
+    let e = c.in_err-grant.field-0.0 in
+    let fails = failed w c.args.station.now.formed c.nodes.result c.links.result.count c.links.result.words.now c.nodes.ensures c.links.ensures.count
+    c.links.ensures.words c.args.work.now c.args.path.now c.args.r fits c.usable-usable.result (search rules) c.usable-usable.ensures e
+    c.in_err-grant.ensures.answer in
+    record {
+      answer = search rules;
+      path =
+          c.search.ensures.path
+          ∙ written w c.args.station.now.formed _ _ _ c.nodes.ensures c.links.ensures.count c.links.ensures.words _ _ _ fits _ (search rules)
+          c.usable-usable.ensures _;
+    }
 
 pub returns : goal.returns
 returns c =
-    let is =
-    reply_is _ _ _ _ _ _ c.requires (omega arith) c.usable-flags.ensures _ _ _ c.wide-n.ensures c.wide-m.ensures
-    c.part-links.ensures in
+    let w = c.args.station.now.area.now in
+    let fits = c.requires in
     record {
-      answer = c.numbered.ensures ∙ ap numbered c.search-found.ensures.answer ∙ numbered_reply _ _ ∙ ap answer_of is;
-      path = c.search-found.ensures.path ∙ path_reply _ _ _ ∙ ap (λ (a : PathReply). path_after a c.args.path.now) is;
+      answer =
+          found w c.args.station.now.formed _ _ _ c.nodes.ensures c.links.ensures.count c.links.ensures.words _ _ _ fits _ (search rules)
+          c.usable-usable.ensures _ c.in_ok-grant.ensures.answer;
+      path =
+          c.search.ensures.path
+          ∙ written w c.args.station.now.formed _ _ _ c.nodes.ensures c.links.ensures.count c.links.ensures.words _ _ _ fits _ (search rules)
+          c.usable-usable.ensures _;
     }

@@ -1,27 +1,44 @@
 -- The first check that fails gives the number, and past the checks the search replies.
-use Rattle.std.proofs.Common.{length}
-use Rattle.rules.proofs.CallCases.{all_passed, quote_refused, quote_passed}
+use Rattle.std.proofs.Common.{◌≡◌, length, sym, rules}
+use Rattle.area.specs.Refusals.{refuses, grants, number, numbered}
+use Rattle.rules.specs.Calls.{searched, request_checked}
+use Rattle.rules.specs.Meaning.{books_in}
+use Rattle.rules.proofs.CallCases.{all_passed, quote_unfit, quote_refused, quote_passed}
 use Rattle.rules.proofs.Granting.{quoted_as, refusal_quoted}
 use Rattle.booking.proofs.quote.quote.Goals as goal
 
-pub returns-then-number-ne0 : goal.returns-then-number-ne0
-returns-then-number-ne0 c =
+pub returns-in_err-station : goal.returns-in_err-station
+returns-in_err-station c =
     let w = c.args.area.now in
     let work = length c.args.work.now in
     let l = c.args.path.now in
-    let a = refusal_quoted w work l c.args.r _ (quote_refused w work (length l) c.args.r _ c.refusal-number.ensures c.if-number-ne0.true) in
-    record { answer = a.0; path = a.1.0; means = a.1.1 }
+    let says : numbered c.from_residual.result ≡ refuses 5 = search rules in
+    let a = refusal_quoted w work l c.args.r 5 (quote_unfit w work (length l) c.args.r (sym c.in_err-station.ensures.formed)) in
+    record { answer = rw says a.0; path = a.1.0; means = rw says a.1.1 }
+
+pub returns-in_err-check_request : goal.returns-in_err-check_request
+returns-in_err-check_request c =
+    let w = c.args.area.now in
+    let work = length c.args.work.now in
+    let l = c.args.path.now in
+    let k = number c.in_err-check_request.field-0.0 in
+    let says : numbered c.from_residual-in_err-check_request.result ≡ refuses k = search rules in
+    let fails : refuses k ≡ request_checked w work (length l) c.args.r = rw (← c.in_ok-station.ensures.area) c.in_err-check_request.ensures in
+    let a = refusal_quoted w work l c.args.r k (quote_refused w work (length l) c.args.r (sym c.in_ok-station.ensures.formed) k fails) in
+    record { answer = rw says a.0; path = a.1.0; means = rw says a.1.1 }
 
 pub find_path-requires : goal.find_path-requires
 find_path-requires c =
-    let p = all_passed c.args.area.now (length c.args.work.now) (length c.args.path.now) c.args.r (cc) in
-    record { formed = p.formed; units = c.check-c.ensures.free; memory = p.memory; buffer = p.buffer; request = p.request }
+    let p = all_passed _ _ _ _ c.in_ok-check_request.ensures in
+    record { memory = p.memory; buffer = p.buffer; request = p.request }
 
 pub returns : goal.returns
 returns c =
     let w = c.args.area.now in
     let work = length c.args.work.now in
     let l = c.args.path.now in
-    let p = all_passed w work (length l) c.args.r (cc) in
-    let a = quoted_as w work l c.args.r _ (quote_passed w work (length l) c.args.r p) _ c.find_path.ensures.answer _ c.find_path.ensures.path in
+    let same = c.in_ok-station.ensures.area in
+    let passes : grants tt ≡ request_checked w work (length l) c.args.r = rw (← same) c.in_ok-check_request.ensures in
+    let a = quoted_as w work l c.args.r (searched (books_in w) c.args.r) (quote_passed w work (length l) c.args.r (sym c.in_ok-station.ensures.formed) passes)
+    _ (rw (← same) c.find_path.ensures.answer) _ (rw (← same) c.find_path.ensures.path) in
     record { answer = a.0; path = a.1.0; means = a.1.1 }

@@ -1,17 +1,9 @@
--- A number out of its range does not fit, and one in its range fits where the search for it comes to the end.
-use Rattle.std.proofs.Common.{arith}
-use Rattle.area.proofs.ReadCases.{formed_long, formed_held}
-use Rattle.rules.proofs.CallCases.{number_out, number_left}
+-- A number in its range fits where the search for it comes to nothing.
+use Rattle.std.proofs.Common.{rules}
+use Rattle.rules.specs.Calls.{number_fits}
+use Rattle.rules.proofs.CallCases.{found_none}
 use Rattle.booking.proofs.request.number_fits.Goals as goal
 
-pub returns-then-not-in_range : goal.returns-then-not-in_range
-returns-then-not-in_range c = number_out c.args.area.now c.args.number (cc)
-
-pub bounds-area-2 : goal.bounds-area-2
-bounds-area-2 c = omega (arith, formed_long c.args.area.now c.requires)
-
-pub find-requires : goal.find-requires
-find-requires c = (omega (arith, formed_held c.args.area.now c.requires), formed_long c.args.area.now c.requires)
-
-pub returns : goal.returns
-returns c = cc (number_left c.args.area.now c.args.number (cc))
+pub returns-then-contains : goal.returns-then-contains
+unfolding number_fits
+returns-then-contains c = let none = found_none c.args.station.now.area.now c.args.number _ c.find.ensures in search rules

@@ -1,29 +1,32 @@
 -- The table that the rounds leave is the model's, whatever work memory held before, and with it the answer.
-use Rattle.std.proofs.Common.{arith}
-use Rattle.search.proofs.ebf.Outcomes.{table_is, table_bounded, answers_none, answers_path}
+use Rattle.std.proofs.Common.{◌≤◌, arith, length, rules}
+use Rattle.network.specs.Limits.{work_words}
+use Rattle.network.specs.Words.{net_of}
+use Rattle.search.specs.Solver.{net_in}
+use Rattle.search.proofs.ebf.Outcomes.{table_is, answers_none, answers_path}
 use Rattle.route.proofs.attempt.attempt.Goals as goal
-
--- the scaled weights are named, since what lines 1 to 5 leave is the same for any of them
-pub rounds-requires-clause-bounded : goal.rounds-requires-clause-bounded
-rounds-requires-clause-bounded c =
-    let pre = c.requires.ranges in (
-      omega (arith, c.initialise.auto.work),
-      table_bounded _ _ _ _ c.args.scaled.now _ _ c.requires.flagged pre.2 pre.3 _ pre.0 c.initialise.ensures,
-    )
 
 pub returns-then-p-work : goal.returns-then-p-work
 returns-then-p-work c =
-    let sound = c.requires.flagged in
-    let pre = c.requires.ranges in
-    let table = table_is _ _ _ _ _ _ _ sound pre.2 pre.3 _ pre.0 c.initialise.ensures c.rounds.ensures in
-    let is = answers_none _ _ _ _ _ _ _ sound pre.2 pre.3 _ pre.0 table c.cell-at.ensures.is _ _ c.if-p-work.true in
+    let s_low = c.requires.nodes.0 in
+    let t_low = c.requires.nodes.1 in
+    let memory : work_words ≤ length c.args.work.now = search rules in
+    let table = table_is c.args.p.now _ _ s_low t_low _ memory c.initialise.ensures c.rounds.ensures in
+    let is =
+    answers_none c.args.p.now _ _ s_low t_low _ memory table c.cell-at.ensures.is _ c.requires.edges c.args.which c.args.path.now c.if-p-work.true in
     record { answer = is.0; path = is.1 }
+
+pub found-requires-clause-nodes : goal.found-requires-clause-nodes
+unfolding net_in net_of
+found-requires-clause-nodes c = (omega (arith, c.requires.edges.nodes), c.requires.nodes.1)
 
 pub returns : goal.returns
 returns c =
-    let sound = c.requires.flagged in
-    let pre = c.requires.ranges in
-    let table = table_is _ _ _ _ _ _ _ sound pre.2 pre.3 _ pre.0 c.initialise.ensures c.rounds.ensures in
-    let is = answers_path _ _ _ _ _ _ _ sound pre.2 pre.3 _ pre.0 table c.cell-at.ensures.is _ c.if-p-work.false _ pre.1
-    c.found.ensures.answer c.found.ensures.path in
+    let s_low = c.requires.nodes.0 in
+    let t_low = c.requires.nodes.1 in
+    let memory : work_words ≤ length c.args.work.now = search rules in
+    let table = table_is c.args.p.now _ _ s_low t_low _ memory c.initialise.ensures c.rounds.ensures in
+    let is =
+    answers_path c.args.p.now _ _ s_low t_low _ memory table c.cell-at.ensures.is _ c.requires.edges c.args.which c.args.path.now c.if-p-work.false
+    c.requires.path_words_in_bounds c.found.ensures.answer c.found.ensures.path in
     record { answer = is.0; path = is.1 }

@@ -1,20 +1,12 @@
 -- Each turn takes one more column, which leaves the settled columns before it as they were; where no other round is due,
 -- every column is settled and a round changes nothing.
 use Rattle.std.proofs.Common.{arith}
-use Rattle.network.proofs.Loops.{iter_none, iter_more, iter_done}
+use Rattle.network.proofs.Loops.{iter_more, iter_done}
 use Rattle.network.proofs.Tests.{by_eq}
 use Rattle.search.specs.ebf.Table.{round}
 use Rattle.search.specs.Solver.{problem_of}
 use Rattle.search.proofs.ebf.Settled.{column_keeps, round_same}
-use Rattle.search.proofs.ebf.Steps.{columns_bounded}
 use Rattle.route.proofs.rounds.round.Goals as goal
-
-pub loop-k-init : goal.loop-k-init
-loop-k-init c = record { risen = iter_none _ _; settled = λ e j low. absurd (omega arith) }
-
-pub relax_links-due-requires-clause-bounded : goal.relax_links-due-requires-clause-bounded
-relax_links-due-requires-clause-bounded c =
-    (omega arith, columns_bounded c.args.p _ _ _ _ _ c.loop-k.invariant.risen c.requires.bounded.1)
 
 pub loop-k-preserved : goal.loop-k-preserved
 loop-k-preserved c = record {

@@ -8,6 +8,6 @@ use Rattle.route.proofs.rounds.round.Given as goal
 
 abbrev pub invariant-loop-k : goal.invariant-loop-k
 invariant-loop-k l = record {
-  risen : l.work ≡ iter (column (net_in l.p l.links l.usable) (problem_of l.p l.kept l.scaled)) l.k l.initial.work;
-  settled : l.due ≡ false → (j : ℕ) → j < l.k → SettledColumn (net_in l.p l.links l.usable) (problem_of l.p l.kept l.scaled) j l.work;
+  risen : l.work ≡ iter (column (net_in l.p) (problem_of l.p)) l.k l.initial.work;
+  settled : l.due ≡ false → (j : ℕ) → j < l.k → SettledColumn (net_in l.p) (problem_of l.p) j l.work;
 }

@@ -3,5 +3,7 @@ use Rattle.std.proofs.Common.{◌≡◌, drop}
 use Rattle.area.specs.Formed.{onward, path_fits}
 use Rattle.station.proofs.circuits.path_fits.Given as goal
 
-abbrev pub invariant-loop-k : goal.invariant-loop-k
-invariant-loop-k l = onward l.m l.links l.v l.seen (drop l.k l.path) ≡ path_fits l.m l.links l.path
+abbrev pub invariant-loop-link : goal.invariant-loop-link
+invariant-loop-link l =
+    onward l.table.links.count l.table.links.words.now l.v l.seen (drop l.link-index l.path)
+    ≡ path_fits l.table.links.count l.table.links.words.now l.path

@@ -5,4 +5,6 @@ use Rattle.area.specs.Held.{numbers_from}
 use Rattle.station.proofs.reads.write_numbers.Given as goal
 
 abbrev pub invariant-loop-j : goal.invariant-loop-j
-invariant-loop-j l = sets l.numbers l.j (numbers_from l.area l.j (l.h - l.j)) ≡ sets l.initial.numbers 0 (numbers_from l.area 0 l.h)
+invariant-loop-j l =
+    sets l.numbers l.j (numbers_from l.places.area.now l.j (l.places.count - l.j))
+    ≡ sets l.initial.numbers 0 (numbers_from l.places.area.now 0 l.places.count)

@@ -1,19 +1,15 @@
--- One link that does not fit is enough; after the last turn every link has been passed.
-use Rattle.std.proofs.Common.{arith}
-use Rattle.network.proofs.Loops.{every_none, every_more, every_done, every_fails}
-use Rattle.area.specs.Formed.{links_fit}
+-- What tests all the numbers of the links is the test of all links.
+use Rattle.std.proofs.Common.{arith, rules, tests, refl, ◌∙◌}
+use Rattle.std.proofs.lemmas.Iterator.{YieldsList-from_range}
+use Rattle.std.proofs.lemmas.Iterator.Search.{all_from_yields_List}
+use Rattle.area.specs.Station.{Table}
+use Rattle.area.specs.Formed.{link_fits}
+use Rattle.area.proofs.TableCases.{links_all}
 use Rattle.station.proofs.table.links_fit.Goals as goal
 
-pub loop-i-init : goal.loop-i-init
-loop-i-init c = every_none _
-
-pub loop-i-preserved : goal.loop-i-preserved
-loop-i-preserved c = every_more _ _ c.loop-i.invariant (cc)
-
-pub returns-then-not-link_fits : goal.returns-then-not-link_fits
-unfolding links_fit
-returns-then-not-link_fits c = every_fails _ c.loop-i.i c.args.m (omega arith) (cc)
-
 pub returns : goal.returns
-unfolding links_fit
-returns c = every_done _ c.loop-i.i c.args.m c.loop-i.invariant (omega arith)
+returns c =
+    let t : Table = record { nodes = c.args.n; links = c.args.links.now.count; words = c.args.links.now.words.now } in
+    all_from_yields_List (link_fits t) _ _ _ c.all.ensures.ran (YieldsList-from_range 0 t.links t.links refl (omega arith))
+    (λ x b q k. search (rules, tests))
+    ∙ links_all t

@@ -1,0 +1,39 @@
+-- A test of all the numbers below n, as the code runs it by `all` over a range, is `every`.
+-- Assumes nothing.
+use Prim.Native.Nat.{ℕ, zero, suc, ◌+◌}
+use mathlib.Core.Path.{◌≡◌, refl, sym, ap, ◌∙◌}
+use mathlib.Core.Bool.{Bool, true, false, ◌&&◌}
+use native.Mathlib.Nat.{add-zero}
+use native.Mathlib.Omega.{arith}
+use Rattle.std.specs.List.{list_all, range_with_len}
+use Rattle.network.specs.Loops.{every}
+
+-- the first number's test may be taken first
+every_front : (f : ℕ → Bool) (n : ℕ) → every f (suc n) ≡ (f 0 && every (λ i. f (suc i)) n)
+unfolding every
+every_front f zero = go (f 0)
+  where
+    go : (b : Bool) → (true && b) ≡ (b && true)
+    go true = refl
+    go false = refl
+every_front f (suc n) = rw (every_front f n) (go (f 0) (every (λ i. f (suc i)) n) (f (suc n)))
+  where
+    go : (a b d : Bool) → ((a && b) && d) ≡ (a && (b && d))
+    go true b d = refl
+    go false b d = refl
+
+every_same : (f h : ℕ → Bool) (n : ℕ) → ((i : ℕ) → f i ≡ h i) → every f n ≡ every h n
+unfolding every
+every_same f h zero e = refl
+every_same f h (suc n) e = rw (every_same f h n e, e n)
+
+every_from : (f : ℕ → Bool) (a n : ℕ) → list_all f (range_with_len a n) ≡ every (λ i. f (a + i)) n
+unfolding every
+every_from f a zero = refl
+every_from f a (suc n) =
+    ap (λ b. f a && b) (every_from f (a + 1) n ∙ every_same (λ i. f (a + 1 + i)) (λ i. f (a + suc i)) n (λ i. ap f (omega arith)))
+    ∙ rw add-zero at (sym (every_front (λ i. f (a + i)) n))
+
+-- a test of all
+pub all_every : (f : ℕ → Bool) (n : ℕ) → list_all f (range_with_len 0 n) ≡ every f n
+all_every f n = every_from f 0 n ∙ every_same (λ i. f (0 + i)) f n (λ i. ap f (omega arith))

@@ -1,9 +1,0 @@
--- A power of two below 2 ^ 32 is not cut off.
-use lib.Pow.{pow-lt}
-use native.Mathlib.Nat.{mod-eq_of_lt, one-mul}
-use Rattle.network.specs.NodeSet.{inserted}
-use Rattle.links.proofs.node_set.insert.Goals as goal
-
-pub returns : goal.returns
-unfolding inserted
-returns c = simp (one-mul, mod-eq_of_lt (pow-lt {j = 32} c.requires))

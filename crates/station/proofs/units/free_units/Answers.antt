@@ -1,0 +1,43 @@
+-- Before the first circuit every link has its capacity free; a circuit that fits takes its units; one that does not, or whose
+-- units are not free, decides; and after the last what is free is what is left.
+use Rattle.std.proofs.Common.{arith, rules, tests, ◌≡◌, refl, sym, ◌∙◌}
+use lib.ListN.{get_or-eq_default}
+use Rattle.network.specs.Limits.{most_links}
+use Rattle.network.specs.Words.{field}
+use Rattle.network.proofs.Past.{past_links}
+use Rattle.network.proofs.Tests.{by_lt}
+use Rattle.area.proofs.Arrays.{made_at}
+use Rattle.area.proofs.CircuitUnits.{passed_none, place_out, passed_more, units_out, passed_all, passed_left}
+use Rattle.station.proofs.units.free_units.Goals as goal
+
+pub loop-j-init : goal.loop-j-init
+loop-j-init c =
+    let t = c.args.table.now in
+    passed_none t.links.count t.links.words.now c.args.places.now.area.now c.from_fn-free.result
+    (λ i.
+    by_lt i most_links
+    (made_at _ _ (λ k y. y ≡ field t.links.words.now k 4) (λ k y q called. search (rules, tests)) c.from_fn-free.result 0 most_links c.from_fn-free.ensures.items i)
+    (λ high. get_or-eq_default c.from_fn-free.result 0 (omega arith) ∙ sym (past_links t.links.words.now t.links.count i 4 t.links.whole (omega arith))))
+
+pub returns-in_err-circuit-clause-fit : goal.returns-in_err-circuit-clause-fit
+returns-in_err-circuit-clause-fit c =
+    rw c.from_residual.ensures
+    (place_out _ _ c.args.places.now.area.now c.loop-j.j c.args.places.now.count (omega arith) c.in_err-circuit.ensures.fits)
+
+pub returns-then-not-take-clause-fit : goal.returns-then-not-take-clause-fit
+returns-then-not-take-clause-fit c =
+    units_out _ _ c.args.places.now.area.now c.loop-j.j c.loop-j.free c.loop-j.invariant c.in_ok-circuit.ensures.fits _ c.in_ok-circuit.ensures.is
+    c.args.places.now.count (omega arith) c.if-not-take.ensures.fits
+
+pub loop-j-preserved : goal.loop-j-preserved
+loop-j-preserved c =
+    passed_more _ _ c.args.places.now.area.now c.loop-j.j c.loop-j.free c.loop-j.invariant c.in_ok-circuit.ensures.fits _ c.in_ok-circuit.ensures.is
+    c.take.new.free c.if-not-take.ensures.fits (c.if-not-take.ensures.words refl)
+
+pub returns-clause-fit : goal.returns-clause-fit
+returns-clause-fit c =
+    passed_all _ _ c.args.places.now.area.now c.loop-j.j c.args.places.now.count c.loop-j.free (omega arith) c.loop-j.invariant
+
+pub returns-clause-free : goal.returns-clause-free
+returns-clause-free c =
+    passed_left c.args.table.now.links.count c.args.table.now.links.words.now c.args.places.now.area.now c.loop-j.j c.args.places.now.count c.loop-j.free (omega arith) c.loop-j.invariant

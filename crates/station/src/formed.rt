@@ -1,0 +1,102 @@
+// A well-formed area. Reading one is the check with which every call on a loaded area begins; it takes any words.
+ghost use Rattle.std.specs.Prelude.{◌≡◌, true, false, ℕ, ◌<◌, get_or, leb, is_ok, is_some, IfOk, IfErr, IfSome};
+ghost use Rattle.network.specs.Limits.{most_links};
+ghost use Rattle.area.specs.declared.refusal.Refusal.TheVariants.{NotWellFormed};
+ghost use Rattle.area.specs.Station.{nodes_in, links_in, held_in, table_in};
+ghost use Rattle.area.specs.Formed.{well_formed};
+ghost use Rattle.area.specs.FreeIn.{free_in};
+ghost use Rattle.area.specs.Held.{FoundAt};
+
+use crate::places::Places;
+use crate::table::{Table, links_in};
+use crate::{layout, units};
+use area::Refusal;
+use links::link::Links;
+use network::limits::MOST_LINKS;
+
+// The words of a well-formed area, and each link's free units.
+#[derive(Clone, Copy)]
+pub struct Station<'a> {
+    pub area: &'a [u32],
+    pub free: [u32; MOST_LINKS],
+    ghost formed: { well_formed area.now ≡ true },
+    ghost units: { (i : ℕ) → get_or free i 0 ≡ free_in area.now i },
+}
+
+impl<'a> Station<'a> {
+    // The station of this area, or 5 where the area is not well formed.
+    pub fn read(area: &'a [u32]) -> Result<Station<'a>, Refusal>
+        ensures formed { is_ok result ≡ well_formed area.now }
+        ensures area { IfOk result (λ s. s.area.now ≡ area.now) }
+        ensures refused { IfErr result (λ e. e ≡ NotWellFormed) }
+    {
+        Station::parse(area).ok_or(Refusal::NotWellFormed)
+    }
+
+    // The station of this area, where the area is well formed.
+    fn parse(area: &'a [u32]) -> Option<Station<'a>>
+        ensures formed { is_some result ≡ well_formed area.now }
+        ensures area { IfSome result (λ s. s.area.now ≡ area.now) }
+    {
+        if area.len() < layout::AREA_WORDS {
+            return None;
+        }
+        let table = Table::read(area)?;
+        let count = area[layout::HELD] as usize;
+        if layout::MOST_CIRCUITS < count {
+            return None;
+        }
+        let free = units::free_units(&table, &Places { area, count })?;
+        Some(Station { area, free })
+    }
+
+    // How many nodes there are.
+    #[tactic(auto, using(area::proofs::ReadCases::formed_long))]
+    pub fn nodes(&self) -> usize
+        ensures { result ≡ nodes_in self.now.area.now }
+    {
+        self.area[layout::NODES] as usize
+    }
+
+    // The link table.
+    #[tactic(auto, using(area::proofs::ReadCases::formed_long, area::proofs::ReadCases::formed_links))]
+    pub fn links(&self) -> Links<'a>
+        ensures count { result.count ≡ links_in self.now.area.now }
+        ensures words { result.words.now ≡ (table_in self.now.area.now).words }
+    {
+        links_in(self.area)
+    }
+
+    // How many circuits are held.
+    #[tactic(auto, using(area::proofs::ReadCases::formed_long))]
+    pub fn held(&self) -> usize
+        ensures { result ≡ held_in self.now.area.now }
+    {
+        self.area[layout::HELD] as usize
+    }
+
+    // The places of the held circuits.
+    pub(crate) fn places(&self) -> Places<'a>
+        ensures area { result.area.now ≡ self.now.area.now }
+        ensures count { result.count ≡ held_in self.now.area.now }
+    {
+        Places {
+            area: self.area,
+            count: self.held(),
+        }
+    }
+
+    // The place of the held circuit with this number, if there is one.
+    pub fn find(&self, number: u32) -> Option<usize>
+        ensures { FoundAt self.now.area.now (held_in self.now.area.now) number result }
+    {
+        self.places().find(number)
+    }
+
+    // Which links are usable for a request of so many units: those of which at least these are free.
+    pub fn usable(&self, units: u32) -> [bool; MOST_LINKS]
+        ensures { (i : ℕ) → i < most_links → get_or result i false ≡ leb units (free_in self.now.area.now i) }
+    {
+        std::array::from_fn(|i| units <= self.free[i])
+    }
+}
