@@ -16,7 +16,8 @@ use area::Refusal;
 use arrayvec::ArrayVec;
 use network::Grant;
 
-// A field for each of these numbers, and the newline.
+// A field for each of these numbers, and the newline. The callers put one or two numbers, or the words of a path whose room
+// `put_path` asks for.
 #[tactic(auto, unfolding(crate::specs::Answers::line_text))]
 pub fn put_line<const N: usize>(text: &mut ArrayVec<u8, N>, numbers: &[u32])
     requires { array_vec_len text.old + 11 * length numbers.now + 1 ≤ N }
@@ -63,7 +64,8 @@ pub fn put_answer<T: Granted<N>, const N: usize>(
     }
 }
 
-// What a quote or an admission answered, with the words of its path buffer.
+// What a quote or an admission answered, with the words of its path buffer. The programs lend room for the 31 words of a
+// path, 375 bytes.
 #[tactic(auto, unfolding(crate::specs::Answers::answer_text, crate::specs::Answers::routed_text))]
 pub fn put_routed<const N: usize>(
     text: &mut ArrayVec<u8, N>,

@@ -25,7 +25,7 @@ pub struct Links<'a> {
 }
 
 impl<'a> Links<'a> {
-    // Link `i`.
+    // Link `i`. The callers count the links, or take its number from a list of links that was checked.
     pub fn get(&self, i: usize) -> Link
         requires { i < self.now.count }
         ensures from { result.from ≡ field self.now.words.now i 0 }

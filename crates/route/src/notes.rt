@@ -33,7 +33,8 @@ impl Notes {
         }
     }
 
-    // Link `i`, which leaves node `v`, is noted there unless a later link of the walk left `v` already.
+    // Link `i`, which leaves node `v`, is noted there unless a later link of the walk left `v` already. The trace has both from
+    // the problem's list of links.
     #[tactic(auto, unfolding(network::specs::Cut::noted))]
     pub fn note(&mut self, v: usize, i: usize)
         requires v_lt_most_nodes { v < most_nodes }

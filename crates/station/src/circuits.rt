@@ -54,7 +54,7 @@ pub struct Circuit<'a> {
 }
 
 impl<'a> Circuit<'a> {
-    // The circuit of these words, where it fits the table.
+    // The circuit of these words, where it fits the table. `Places::get` hands it those of one place.
     pub fn read(words: &'a [u32], table: &Table<'_>) -> Option<Circuit<'a>>
         requires { length words.now ≡ circuit_words }
         ensures fits { is_some result ≡ circuit_fits table.now.links.count table.now.links.words.now (circuit_of words.now) }

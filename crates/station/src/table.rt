@@ -34,7 +34,8 @@ pub fn links_fit(n: usize, links: &Links<'_>) -> bool
     (0..links.count).all(|i| link_fits(n, links, i))
 }
 
-// The links of an area that is long enough and counts no more of them than a table has.
+// The links of an area that is long enough and counts no more of them than a table has: `Table::read` tests the count, and a
+// station's area has both.
 pub fn links_in(area: &[u32]) -> Links<'_>
     requires long { area_words ≤ length area.now }
     requires few { links_in area.now ≤ most_links }
@@ -57,7 +58,7 @@ pub struct Table<'a> {
 }
 
 impl<'a> Table<'a> {
-    // The table of an area of full length, where its numbers are in their ranges.
+    // The table of an area of full length, where its numbers are in their ranges. `Station::read` tests the length.
     pub fn read(area: &'a [u32]) -> Option<Table<'a>>
         requires { area_words ≤ length area.now }
         ensures fits { is_some result ≡ table_fits (table_in area.now) }

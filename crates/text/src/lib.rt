@@ -1,5 +1,5 @@
 // Numbers and fields as text: each function appends its bytes to a text of fixed room. What they require, their callers know
-// by counting: a word has at most ten digits. The class program and `answer_lines` call them.
+// by counting: a word has at most ten digits. `answer_lines` and the programs call them.
 #![tactic(auto)]
 
 ghost use Rattle.std.specs.Prelude.{◌≡◌, ◌+◌, ◌*◌, ◌≤◌, ◌++◌, length};
