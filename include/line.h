@@ -45,10 +45,11 @@ extern "C" {
 #define LINE_MOST_COST 1000000
 #define LINE_MOST_CAPACITY 65535
 
-/* Ranges of a request and of a circuit; x is the coefficient times the fewest links of any usable path. */
+/* Ranges of a request and of a circuit; x is the coefficient times the fewest links of any usable path. With a delay bound
+   or a cost bound of 0 nothing of that weight may be spent. */
 #define LINE_LEAST_UNITS 1
 #define LINE_MOST_UNITS 65535
-#define LINE_LEAST_BOUND 1
+#define LINE_LEAST_BOUND 0
 #define LINE_MOST_DELAY_BOUND 31000000
 #define LINE_MOST_COST_BOUND 31000000
 #define LINE_LEAST_COEFFICIENT 1
@@ -103,7 +104,7 @@ uint32_t line_load(uint32_t n, const uint32_t *links, size_t link_words, uint32_
  * Quotes a path from s to t: answer[0] to answer[3] are the problem (1 or 2), delay, cost and number of links; the
  * path's links stand in as many first words of path.
  * Ranges: area_words at least 3,459; work_words at least 16,384; path_words at least 31; s below n; t below n and not
- * s; units 1 to 65,535; delay_bound 1 to 31,000,000; cost_bound 1 to 31,000,000; coefficient 1 to 8.
+ * s; units 1 to 65,535; delay_bound 0 to 31,000,000; cost_bound 0 to 31,000,000; coefficient 1 to 8.
  * Refusals: 5, 6, 7, 8, 9, 10.
  */
 uint32_t line_quote(const uint32_t *area, size_t area_words, uint32_t *work, size_t work_words,
@@ -113,7 +114,7 @@ uint32_t line_quote(const uint32_t *area, size_t area_words, uint32_t *work, siz
 /*
  * Answers as a quote does, and adds the circuit to the area. Its number must not be held.
  * Ranges: area_words at least 3,459; work_words at least 16,384; path_words at least 31; circuit 1 to 65,535; s below
- * n; t below n and not s; units 1 to 65,535; delay_bound 1 to 31,000,000; cost_bound 1 to 31,000,000; coefficient 1
+ * n; t below n and not s; units 1 to 65,535; delay_bound 0 to 31,000,000; cost_bound 0 to 31,000,000; coefficient 1
  * to 8.
  * Refusals: 5, 6, 7, 8, 11, 12, 9, 10.
  */
@@ -146,7 +147,7 @@ uint32_t line_free_units(const uint32_t *area, size_t area_words, uint32_t link,
 
 /*
  * Checks a class table, 4 words a row: units, delay bound, cost bound, coefficient, in the ranges of a request.
- * Ranges: row_words a multiple of 4, from 4 to 256; units 1 to 65,535; delay_bound 1 to 31,000,000; cost_bound 1 to
+ * Ranges: row_words a multiple of 4, from 4 to 256; units 1 to 65,535; delay_bound 0 to 31,000,000; cost_bound 0 to
  * 31,000,000; coefficient 1 to 8.
  * Refusals: 20, 21.
  */
@@ -156,7 +157,7 @@ uint32_t line_check_classes(const uint32_t *rows, size_t row_words);
  * What a service class asks for, by a class table, which is checked first: answer[0] to answer[3] are the units, delay
  * bound, cost bound and coefficient of its row. Rows are numbered from 0.
  * Ranges: row_words a multiple of 4, from 4 to 256; service_class below the row count; units 1 to 65,535; delay_bound
- * 1 to 31,000,000; cost_bound 1 to 31,000,000; coefficient 1 to 8.
+ * 0 to 31,000,000; cost_bound 0 to 31,000,000; coefficient 1 to 8.
  * Refusals: 20, 21, 16.
  */
 uint32_t line_class(const uint32_t *rows, size_t row_words, uint32_t service_class, uint32_t answer[4]);

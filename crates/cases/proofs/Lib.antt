@@ -2,4 +2,5 @@ pub mod Worked
 pub mod Rows
 pub mod Numbers
 pub mod Areas
+pub mod FreeLines
 pub mod ClassCases

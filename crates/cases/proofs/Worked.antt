@@ -25,6 +25,7 @@ use Rattle.search.specs.Result.{outcome}
 use Rattle.area.specs.Station.{table_in, circuit_of, station}
 use Rattle.area.specs.Books.{books, net}
 use Rattle.area.specs.Load.{load_answer}
+use Rattle.rules.specs.Replies.{PathReply}
 use Rattle.rules.specs.Calls.{quote, admission}
 use Rattle.rules.specs.Meaning.{net_for}
 use Rattle.cases.specs.Document01.{net_a, net_b, AreasLoaded, m2, m3, m11, area_in, Case, cases, Holds, CaseHolds, Margins}
@@ -44,12 +45,14 @@ replied_holds : (w : List ℕ) (q : Asked) → Holds w q (replied w q)
 replied_holds w (Quote r) = quote_means w work_words path_words r
 replied_holds w (Admission c r) = admission_means w work_words path_words r c
 
--- one equation of two lists, as a statement of each element
-each : (l : List Case) → map (λ (c : Case). replied_to c.row) l ≡ map (λ (c : Case). c.reply) l → All CaseHolds l
-each [] e = tt
-each (c ∷ l) e = (
-  subst (Holds (area_in c.row.stands) c.row.asked) (head-eq_of_cons-eq e) (replied_holds (area_in c.row.stands) c.row.asked),
-  each l (tail-eq_of_cons-eq e),
+-- one equation of two lists, as a statement of each case: whatever a case is, it stands on an area and has a call and a reply
+pub each_case : {A : Type 0} (stands : A → List ℕ) (asked : A → Asked) (reply : A → PathReply) (l : List A)
+    → map (λ (c : A). replied (stands c) (asked c)) l ≡ map reply l
+    → All (λ (c : A). Holds (stands c) (asked c) (reply c)) l
+each_case stands asked reply [] e = tt
+each_case stands asked reply (c ∷ l) e = (
+  subst (Holds (stands c) (asked c)) (head-eq_of_cons-eq e) (replied_holds (stands c) (asked c)),
+  each_case stands asked reply l (tail-eq_of_cons-eq e),
 )
 
 -- the areas are freshly loaded
@@ -59,11 +62,11 @@ areas_loaded = (refl, (refl, (refl, tt)))
 
 -- M1 to M11 hold
 pub all_cases : All CaseHolds cases
-all_cases = each cases replies
+all_cases = each_case (λ (c : Case). area_in c.row.stands) (λ (c : Case). c.row.asked) (λ (c : Case). c.reply) cases replies
 
 -- ---- the figures
 -- a path by one link gives distance 1
-one_link_lem : (g : Net) (s t i : ℕ) → is_pathb g s t (i ∷ []) ≡ true → Distance g s t 1
+pub one_link_lem : (g : Net) (s t i : ℕ) → is_pathb g s t (i ∷ []) ≡ true → Distance g s t 1
 one_link_lem g s t i e = record { reached = (i ∷ [], path_of_lem g s t (i ∷ []) e, refl); fewest = fewest }
   where
     fewest : (p : List ℕ) → IsPath g s t p → 1 ≤ length p

@@ -1,4 +1,5 @@
--- Document 01's worked cases, what the calls reply to them, and cases of class tables.
+-- Document 01's worked cases, what the calls reply to them, cases of bounds of 0, and cases of class tables.
 pub mod Document01
 pub mod Replied
+pub mod FreeLines
 pub mod ClassCases

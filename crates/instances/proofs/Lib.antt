@@ -1,6 +1,7 @@
 pub mod Ranges
 pub mod Paths
 pub mod Problems
+pub mod FreeLines
 pub mod Searches
 pub mod Hops
 pub mod Areas

@@ -1,4 +1,5 @@
--- A request's terms: the least and the greatest of every range are taken, and one less or one more of any is not.
+-- A request's terms: the least and the greatest of every range are taken, bounds of 0 among them, and one less or one more of
+-- any is not.
 -- Assumes nothing.
 use Prim.Native.Nat.{◌+◌, ◌-◌}
 use mathlib.Core.Path.{◌≡◌, refl}
@@ -25,6 +26,19 @@ pub most_terms : TermsFit (asks most_units most_delay_bound most_cost_bound most
 unfolding terms_fit
 most_terms = terms_says (asks most_units most_delay_bound most_cost_bound most_coefficient) refl
 
+-- a job that may cost nothing, one that may take no time, and one with both
+pub no_cost : TermsFit (asks 1 8 0 8)
+unfolding terms_fit
+no_cost = terms_says (asks 1 8 0 8) refl
+
+pub no_delay : TermsFit (asks 1 0 20 8)
+unfolding terms_fit
+no_delay = terms_says (asks 1 0 20 8) refl
+
+pub neither : TermsFit (asks 1 0 0 8)
+unfolding terms_fit
+neither = terms_says (asks 1 0 0 8) refl
+
 -- the others are M3's
 pub no_units : TermsFit (asks (least_units - 1) 8 20 8) → ⊥
 no_units h = omega (arith, h.units_least)
@@ -34,9 +48,6 @@ many_units h = omega (arith, h.units_most)
 
 pub delay_bound_over : TermsFit (asks 1 (most_delay_bound + 1) 20 8) → ⊥
 delay_bound_over h = omega (arith, h.delay_most)
-
-pub no_cost_bound : TermsFit (asks 1 8 (least_bound - 1) 8) → ⊥
-no_cost_bound h = omega (arith, h.cost_least)
 
 pub cost_bound_over : TermsFit (asks 1 8 (most_cost_bound + 1) 8) → ⊥
 cost_bound_over h = omega (arith, h.cost_most)

@@ -93,7 +93,7 @@ overqualifies = (1, distance_one, (three, three_path, m3_enough))
 
 pub not_overqualifies : Overqualifies net_a m1 → ⊥
 not_overqualifies h =
-    let enough = found_enough net_a m1 (omega arith) (omega arith) (omega arith) (λ e. omega (arith, e)) no_solution
+    let enough = found_enough net_a m1 (omega arith) (λ e. omega (arith, e)) no_solution
     found_unsolved h.0 h.1 h.2.0 h.2.1 h.2.2 in
     let e = enough.2 in
     let z : ◌≡◌ {A = ℕ} 0 1 = cc in

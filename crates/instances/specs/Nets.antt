@@ -1,11 +1,12 @@
--- What the instances are about: document 01's net A and net B as networks, and requests on net A beside those that
--- `cases` names.
+-- What the instances are about: document 01's net A and net B and the net of free lines as networks, and requests on them
+-- beside those that `cases` names.
 -- Assumes nothing.
 use Rattle.std.specs.Prelude.{ℕ, true, List, [], ◌∷◌, replicate}
 use Rattle.network.specs.Net.{Net}
 use Rattle.network.specs.Words.{net_of}
 use Rattle.network.specs.declared.Request.{Request}
 use Rattle.cases.specs.Document01.{links_a, links_b, asks}
+use Rattle.cases.specs.FreeLines.{links_f}
 
 -- ---- the networks
 -- every link is usable
@@ -22,6 +23,16 @@ abbrev pub shut_a : Net
 unfolding net_of
 shut_a = net_of 4 4 links_a []
 
+-- the net of free lines
+abbrev pub net_f : Net
+unfolding net_of
+net_f = net_of 4 6 links_f (replicate 6 true)
+
+-- one link that costs nothing, with a delay of 3
+abbrev pub slow : Net
+unfolding net_of
+slow = net_of 2 1 (0 ∷ 1 ∷ 3 ∷ 0 ∷ 5 ∷ []) (true ∷ [])
+
 -- ---- the path of net A from 0 to 3 by link 3; `three` of `cases` is the other
 abbrev pub straight : List ℕ
 straight = 3 ∷ []
@@ -35,3 +46,10 @@ m4 = asks 1 8 15 8
 
 abbrev pub m6 : Request
 m6 = asks 1 9 20 8
+
+-- ---- requests with a bound of 0, from 0 to 3 on the net of free lines: C = 0, and D = 0
+abbrev pub costless : Request
+costless = asks 1 10 0 8
+
+abbrev pub delayless : Request
+delayless = asks 1 0 10 8

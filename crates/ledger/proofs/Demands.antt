@@ -5,11 +5,13 @@
 use Prim.Native.Nat.{ℕ}
 use mathlib.Core.Path.{◌≡◌}
 use mathlib.Core.List.{List, ◌++◌}
+use mathlib.Core.Logic.{◌↔◌}
 use Rattle.network.specs.declared.Request.{Request}
 use Rattle.area.specs.Station.{station}
 use Rattle.area.specs.Books.{Books}
 use Rattle.area.specs.Formed.{WellFormed}
 use Rattle.area.specs.Order.{Agrees}
+use Rattle.area.specs.Refusals.{Passes, IsRefused}
 use Rattle.area.proofs.Order.{agrees_eq, agrees_next, agrees_sym}
 use Rattle.area.specs.Refusals.{grants}
 use Rattle.area.specs.Load.{load_answer, area_loaded}
@@ -18,13 +20,14 @@ use Rattle.rules.specs.Calls.{quote, admission}
 use Rattle.rules.specs.Allowed.{number_rules, search_rules}
 use Rattle.rules.specs.Meaning.{books_in, net_for}
 use Rattle.rules.proofs.Meaning.{quote_means, admission_means}
-use Rattle.ledger.specs.Entries.{Call, ReplyTo, opened}
+use Rattle.ledger.specs.Entries.{Call, ReplyTo, opened, checks}
 use Rattle.ledger.specs.History.{Lending, history}
+use Rattle.ledger.specs.Sentences.{OfRequest, Feasible, ZeroBound}
 use Rattle.ledger.specs.Demand.{FirstDemand, PathsGranted, Throughout, SecondDemand, ThirdDemand}
 use Rattle.ledger.proofs.Decisions.{every_call_decided}
 use Rattle.ledger.proofs.Steps.{Says}
 use Rattle.ledger.proofs.Given.{answers_given}
-use Rattle.ledger.proofs.Places.{refused_as, not_five, answered, exactly_refused, enough_granted, paths_granted, paths_past_five}
+use Rattle.ledger.proofs.Places.{refused_as, not_five, answered, exactly_refused, enough_granted, zero_refused, paths_granted, paths_past_five}
 use Rattle.ledger.proofs.Histories.{followed, ends_agree, at_every, Agreeing, struck_answers, struck_ends}
 
 -- ---- the first demand
@@ -74,6 +77,11 @@ module _ (n : ℕ) (links : List ℕ) where
             (struck_ends (area_loaded w n links) (area_loaded v n links) (agreeing w v accepted accepted') s).held,
           );
         }
+
+    -- beside it: with a bound of 0 the heuristic is exact. Past its checks a request is refused exactly when no usable path
+    -- meets both bounds.
+    pub zero_bounds : Throughout w n links cs (λ o q a. Passes (checks o q) → OfRequest (λ g r b. ZeroBound r → IsRefused b ↔ (Feasible g r → ⊥)) o q a)
+    zero_bounds = throughout w accepted _ zero_refused cs
 
     pub second_demand : SecondDemand w n links cs
     second_demand = throughout w accepted _ paths_granted cs

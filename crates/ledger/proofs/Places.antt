@@ -18,9 +18,9 @@ use Rattle.rules.specs.Allowed.{Grant, request_rules, number_rules, search_rules
 use Rattle.rules.specs.Meaning.{books_in, quote_rules, net_for}
 use Rattle.rules.proofs.Meaning.{request_past}
 use Rattle.ledger.specs.Entries.{Call, quoting, admitting, releasing, Granting, ReplyTo, told, Ledger, seen, checks, rules, Refuses, Grants, moved}
-use Rattle.ledger.specs.Sentences.{Solvable, Overqualifies, OfRequest}
+use Rattle.ledger.specs.Sentences.{Solvable, Overqualifies, Feasible, ZeroBound, OfRequest}
 use Rattle.ledger.specs.Demand.{GrantedPath, PathsGranted}
-use Rattle.ledger.proofs.Searches.{search_exactly, search_enough, grant_path_granted}
+use Rattle.ledger.proofs.Searches.{search_exactly, search_enough, zero_exactly, grant_path_granted}
 use Rattle.ledger.proofs.Steps.{Says}
 
 pub refused_as : (o : Books) (q : Call ℕ) (a : ReplyTo q) → Says o q a → (k : ℕ) → (a ≡ refuses k) ↔ Refuses o q k
@@ -61,7 +61,10 @@ module _ (o : Books) (work path : ℕ) (r : Request) (rs : List Rule) (n : Passe
   fits = request_past o.table.nodes r n.1.1.0
 
   enough : (a : PathReply) → Answered (Grant (seen o r) r) (search_rules (seen o r) r) a → Overqualifies (seen o r) r → IsGranted a
-  enough a h = search_enough (seen o r) r fits.terms.delay_least fits.terms.cost_least a h
+  enough a h = search_enough (seen o r) r o.table.nodes fits a h
+
+  exactly : ZeroBound r → (a : PathReply) → Answered (Grant (seen o r) r) (search_rules (seen o r) r) a → IsRefused a ↔ (Feasible (seen o r) r → ⊥)
+  exactly = zero_exactly (seen o r) r o.table.nodes fits
 
   granted_path : (b : PathGrant) → Grant (seen o r) r b → GrantedPath (seen o r) r b
   granted_path b h = grant_path_granted (seen o r) r o.table.nodes fits b h
@@ -73,6 +76,14 @@ enough_granted o (quoting work path r) a h n =
 enough_granted o (admitting work path c r) a h n =
     enough o work path r (number_rules o c) n a (past (Grant (seen o r) r) (checks o (admitting work path c r)) (search_rules (seen o r) r) a n h)
 enough_granted o (releasing c) a h n = tt
+
+pub zero_refused : (o : Books) (q : Call ℕ) (a : ReplyTo q) → Says o q a → Passes (checks o q)
+    → OfRequest (λ g r b. ZeroBound r → IsRefused b ↔ (Feasible g r → ⊥)) o q a
+zero_refused o (quoting work path r) a h n = λ zero.
+    exactly o work path r [] n zero a (past (Grant (seen o r) r) (checks o (quoting work path r)) (search_rules (seen o r) r) a n h)
+zero_refused o (admitting work path c r) a h n = λ zero.
+    exactly o work path r (number_rules o c) n zero a (past (Grant (seen o r) r) (checks o (admitting work path c r)) (search_rules (seen o r) r) a n h)
+zero_refused o (releasing c) a h n = tt
 
 -- ---- granted paths
 -- by the rules of a request, whatever rules follow

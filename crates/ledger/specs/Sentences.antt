@@ -1,9 +1,9 @@
 -- The words that the demands are said with: of the network that a request sees, and of a place in a list of calls.
 -- Assumes nothing.
-use Rattle.std.specs.Prelude.{ℕ, List, [], ◌∷◌, ◌⊎◌}
+use Rattle.std.specs.Prelude.{ℕ, ◌≡◌, List, [], ◌∷◌, ◌⊎◌}
 use Rattle.network.specs.Net.{Net, IsPath}
 use Rattle.network.specs.Problem.{Solves, Distance}
-use Rattle.network.specs.Reduce.{one, two, Enough}
+use Rattle.network.specs.Reduce.{delay_bound, cost_bound, one, two, WithinBounds, Enough}
 use Rattle.network.specs.declared.Request.{Request}
 use Rattle.area.specs.Books.{Books, books}
 use Rattle.rules.specs.Replies.{PathReply}
@@ -24,6 +24,14 @@ module _ (g : Net) (r : Request) where
   -- a usable path is overqualified in either way: by the paper's condition one or its condition two
   abbrev pub Overqualifies : Type 0
   Overqualifies = (k : ℕ) × AtDistance k × ((p : List ℕ) × IsPath g r.source r.target p × Enough g r k p)
+
+  -- a usable path keeps both original bounds: what an exact search would look for
+  abbrev pub Feasible : Type 0
+  Feasible = (p : List ℕ) × IsPath g r.source r.target p × WithinBounds g r p
+
+-- the job may take no time, or cost nothing
+abbrev pub ZeroBound : Request → Type 0
+ZeroBound r = (delay_bound r ≡ 0) ⊎ (cost_bound r ≡ 0)
 
 -- P holds at every place of a list: of the ledger's books as they stand there, the call and its answer
 abbrev pub AtEvery : (Books → (q : Call ℕ) → ReplyTo q → Type 0) → Ledger → List Event → Type 0

@@ -15,7 +15,7 @@ use Rattle.network.specs.Net.{Net, IsPath, sum}
 use Rattle.network.specs.Scale.{scaled, Overqualified}
 use Rattle.network.specs.Problem.{Problem, Solves, Distance}
 use Rattle.network.specs.Reduce.{delay_bound, cost_bound, problem_one, problem_two, WithinBounds, Enough, Outcome, no_path, no_solution, granted, Found, none, unsolved, by_one, by_two}
-use Rattle.network.proofs.Scaling.{theorem_one, theorem_two}
+use Rattle.network.proofs.Scaling.{theorem_one, theorem_two, free_path}
 
 -- ---- the distance
 -- a path between two nodes has a link, so x is at least 1
@@ -36,43 +36,63 @@ one_distance g s t k k' far far' =
 abbrev reduced_by : (ℕ → ℕ) → ℕ → (ℕ → ℕ) → ℕ → ℕ → Problem
 reduced_by kept bound weight limit x = record { kept = kept; bound = bound; scaled_by = λ i. scaled x limit (weight i); x = x }
 
-module _ (g : Net) (kept : ℕ → ℕ) (bound : ℕ) (weight : ℕ → ℕ) (limit x s t : ℕ) (p : List ℕ) (pos : 0 < limit) where
+module _ (g : Net) (kept : ℕ → ℕ) (bound : ℕ) (weight : ℕ → ℕ) (limit x s t : ℕ) (p : List ℕ) (some : 0 < x) where
   -- Theorem 1
-  solution_within : 0 < x → Solves g (reduced_by kept bound weight limit x) s t p → sum weight p ≤ limit
-  solution_within xpos h = theorem_one x limit pos weight xpos p h.reduced
+  solution_within : Solves g (reduced_by kept bound weight limit x) s t p → sum weight p ≤ limit
+  solution_within h = theorem_one x weight some limit p h.reduced
 
   -- Theorem 2
   overqualified_solves : IsPath g s t p → sum kept p ≤ bound → Overqualified x limit (length p) (sum weight p)
       → Solves g (reduced_by kept bound weight limit x) s t p
-  overqualified_solves path low over = record { path = path; within = low; reduced = theorem_two x limit pos weight p over }
+  overqualified_solves path low over = record { path = path; within = low; reduced = theorem_two x weight some limit p over }
 
 -- ---- the problems of a request
-module _ (g : Net) (r : Request) (x : ℕ) (p : List ℕ) where
-  pub solution_one_within : 0 < x → 0 < cost_bound r → Solves g (problem_one g r x) r.source r.target p → WithinBounds g r p
+module _ (g : Net) (r : Request) (x : ℕ) (p : List ℕ) (some : 0 < x) where
+  pub solution_one_within : Solves g (problem_one g r x) r.source r.target p → WithinBounds g r p
   unfolding problem_one
-  solution_one_within xpos pos h =
-      record { delay = h.within; cost = solution_within g g.delay (delay_bound r) g.cost (cost_bound r) x _ _ p pos xpos h }
+  solution_one_within h =
+      record { delay = h.within; cost = solution_within g g.delay (delay_bound r) g.cost (cost_bound r) x _ _ p some h }
 
-  pub solution_two_within : 0 < x → 0 < delay_bound r → Solves g (problem_two g r x) r.source r.target p → WithinBounds g r p
+  pub solution_two_within : Solves g (problem_two g r x) r.source r.target p → WithinBounds g r p
   unfolding problem_two
-  solution_two_within xpos pos h =
-      record { delay = solution_within g g.cost (cost_bound r) g.delay (delay_bound r) x _ _ p pos xpos h; cost = h.within }
+  solution_two_within h =
+      record { delay = solution_within g g.cost (cost_bound r) g.delay (delay_bound r) x _ _ p some h; cost = h.within }
 
   pub overqualified_solves_one : IsPath g r.source r.target p → sum g.delay p ≤ delay_bound r
       → Overqualified x (cost_bound r) (length p) (sum g.cost p)
-      → 0 < cost_bound r
       → Solves g (problem_one g r x) r.source r.target p
   unfolding problem_one
-  overqualified_solves_one path low over pos =
-      overqualified_solves g g.delay (delay_bound r) g.cost (cost_bound r) x _ _ p pos path low over
+  overqualified_solves_one path low over =
+      overqualified_solves g g.delay (delay_bound r) g.cost (cost_bound r) x _ _ p some path low over
 
   pub overqualified_solves_two : IsPath g r.source r.target p → sum g.cost p ≤ cost_bound r
       → Overqualified x (delay_bound r) (length p) (sum g.delay p)
-      → 0 < delay_bound r
       → Solves g (problem_two g r x) r.source r.target p
   unfolding problem_two
-  overqualified_solves_two path low over pos =
-      overqualified_solves g g.cost (cost_bound r) g.delay (delay_bound r) x _ _ p pos path low over
+  overqualified_solves_two path low over =
+      overqualified_solves g g.cost (cost_bound r) g.delay (delay_bound r) x _ _ p some path low over
+
+-- ---- a request with a bound of 0
+-- No path within both bounds is passed over there: it weighs nothing where nothing may be spent, and nothing is not rounded up.
+module _ (g : Net) (r : Request) (x : ℕ) (p : List ℕ) where
+  pub costless_solves_one : cost_bound r ≡ 0 → IsPath g r.source r.target p → WithinBounds g r p
+      → Solves g (problem_one g r x) r.source r.target p
+  unfolding problem_one
+  costless_solves_one nought path h =
+      let free : sum g.cost p ≤ 0 = omega (arith, h.cost) in
+      record { path = path; within = h.delay; reduced = omega (arith, free_path x g.cost (cost_bound r) p free) }
+
+  -- so a job that may cost nothing is never granted by problem two
+  pub costless_by_one : 0 < x → cost_bound r ≡ 0 → Solves g (problem_two g r x) r.source r.target p
+      → Solves g (problem_one g r x) r.source r.target p
+  costless_by_one some nought h = costless_solves_one nought h.path (solution_two_within g r x p some h)
+
+  pub delayless_solves_two : delay_bound r ≡ 0 → IsPath g r.source r.target p → WithinBounds g r p
+      → Solves g (problem_two g r x) r.source r.target p
+  unfolding problem_two
+  delayless_solves_two nought path h =
+      let free : sum g.delay p ≤ 0 = omega (arith, h.delay) in
+      record { path = path; within = h.cost; reduced = omega (arith, free_path x g.delay (delay_bound r) p free) }
 
 -- ---- what a search found
 -- the path of a grant meets both bounds
@@ -81,15 +101,15 @@ Bounded g r no_path = Unit
 Bounded g r no_solution = Unit
 Bounded g r (granted which p) = WithinBounds g r p
 
-module _ (g : Net) (r : Request) (positive : 0 < r.terms.coefficient) (D : 0 < delay_bound r) (C : 0 < cost_bound r)
-    (differ : r.source ≡ r.target → ⊥) where
+module _ (g : Net) (r : Request) (positive : 0 < r.terms.coefficient) (differ : r.source ≡ r.target → ⊥) where
+  x_some : (k : ℕ) → Distance g r.source r.target k → 0 < r.terms.coefficient * k
+  x_some k far = x_positive g _ _ k _ differ positive far
+
   bounded : (o : Outcome) → Found g r o → Bounded g r o
   bounded o (none h) = tt
   bounded o (unsolved k far h h') = tt
-  bounded o (by_one k p far best) =
-      solution_one_within g r (r.terms.coefficient * k) p (x_positive g _ _ k _ differ positive far) C best.solves
-  bounded o (by_two k p far h best) =
-      solution_two_within g r (r.terms.coefficient * k) p (x_positive g _ _ k _ differ positive far) D best.solves
+  bounded o (by_one k p far best) = solution_one_within g r (r.terms.coefficient * k) p (x_some k far) best.solves
+  bounded o (by_two k p far h best) = solution_two_within g r (r.terms.coefficient * k) p (x_some k far) best.solves
 
   -- a granted path meets both bounds
   pub found_within : (o : Outcome) → Found g r o → (which : Reduction) (p : List ℕ) → o ≡ granted which p → WithinBounds g r p
@@ -103,7 +123,7 @@ module _ (g : Net) (r : Request) (positive : 0 < r.terms.coefficient) (D : 0 < d
   found_enough o (unsolved k' far' h h') k far p path enough =
       let same : k ≡ k' = one_distance g _ _ k k' far far' in
       absurd
-      (⊎_elim (λ q. h p (overqualified_solves_one g r (r.terms.coefficient * k') p path q.0 (rw same at q.1) C))
-      (λ q. h' p (overqualified_solves_two g r (r.terms.coefficient * k') p path q.0 (rw same at q.1) D)) enough)
+      (⊎_elim (λ q. h p (overqualified_solves_one g r (r.terms.coefficient * k') p (x_some k' far') path q.0 (rw same at q.1)))
+      (λ q. h' p (overqualified_solves_two g r (r.terms.coefficient * k') p (x_some k' far') path q.0 (rw same at q.1))) enough)
   found_enough o (by_one k' p' far' best) k far p path enough = (One, p', refl)
   found_enough o (by_two k' p' far' h best) k far p path enough = (Two, p', refl)

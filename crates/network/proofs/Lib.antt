@@ -6,7 +6,7 @@ pub mod Past
 mod Words
 mod Least
 pub mod NodeSet
-mod Scaling
+pub mod Scaling
 pub mod Paths
 pub mod Few
 pub mod Short

@@ -47,7 +47,7 @@ most_units = 65535
 
 -- the bounds D, of the delay, and C, of the cost
 abbrev pub least_bound : ℕ
-least_bound = 1
+least_bound = 0
 
 abbrev pub most_delay_bound : ℕ
 most_delay_bound = 31000000

@@ -30,7 +30,7 @@ pub const LEAST_UNITS: u32 = 1;
 pub const MOST_UNITS: u32 = 65535;
 
 // The bounds D, of the delay, and C, of the cost.
-pub const LEAST_BOUND: u32 = 1;
+pub const LEAST_BOUND: u32 = 0;
 
 pub const MOST_DELAY_BOUND: u32 = 31000000;
 

@@ -40,7 +40,9 @@ fn fill(work: &mut [u32; WORK_WORDS], a: usize, n: usize, d: u32)
 }
 
 // Lines 1 to 5, with bound + 1 for ∞. No link word is cleared for line 3: a link is read only where the number
-// is within the bound, and was written with it. `attempt` calls it.
+// is within the bound, and was written with it. `attempt` calls it. It stands by itself in the machine code, which leaves the
+// rounds behind it more registers (docs/performance.md).
+#[inline(never)]
 #[tactic(auto, unfolding(search::specs::ebf::Table::initialised, search::specs::Solver::net_in, search::specs::Solver::problem_of), using(search::proofs::ebf::Rows::row_fits_lem))]
 pub fn initialise(p: &Reduced<'_>, work: &mut [u32; WORK_WORDS], s: usize)
     requires s_lt_most_nodes { s < most_nodes }

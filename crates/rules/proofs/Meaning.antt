@@ -79,8 +79,6 @@ area_searchable w r formed fits =
       source = fits.source;
       target = fits.target;
       apart = fits.apart;
-      delay_some = fits.terms.delay_least;
-      cost_some = fits.terms.cost_least;
       coefficient_some = fits.terms.coefficient_least;
     }
 

@@ -78,8 +78,8 @@ module _ (g : Net) (r : Request) where
         by_one = granted_one _ found;
         by_two = granted_two _ found;
         no_other = granted_either _ found;
-        within = found_within g r ok.coefficient_some ok.delay_some ok.cost_some ok.apart _ found;
-        enough = found_enough g r ok.coefficient_some ok.delay_some ok.cost_some ok.apart _ found;
+        within = found_within g r ok.coefficient_some ok.apart _ found;
+        enough = found_enough g r ok.coefficient_some ok.apart _ found;
       }
 
 -- it depends, the granted path included, on the network and the request alone, and of the network only on n, which links
@@ -100,7 +100,5 @@ ready_searchable n m links usable work path r table h =
       source = h.source;
       target = h.target;
       apart = h.apart;
-      delay_some = h.terms.delay_least;
-      cost_some = h.terms.cost_least;
       coefficient_some = h.terms.coefficient_least;
     }

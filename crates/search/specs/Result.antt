@@ -12,7 +12,7 @@ use Rattle.network.specs.declared.answer.NoRoute.{NoRoute}
 use Rattle.network.specs.declared.answer.NoRoute.TheVariants as why
 use Rattle.network.specs.declared.answer.Reduction.{Reduction}
 use Rattle.network.specs.declared.answer.Reduction.TheVariants.{One, Two}
-use Rattle.network.specs.Reduce.{delay_bound, cost_bound, TermsInRange, one, two, WithinBounds, Enough, Outcome, no_path, no_solution, granted}
+use Rattle.network.specs.Reduce.{TermsInRange, one, two, WithinBounds, Enough, Outcome, no_path, no_solution, granted}
 use Rattle.search.specs.Heuristic.{search}
 
 -- ---- what it relies on
@@ -33,8 +33,6 @@ pub record Searchable (g : Net) (r : Request) : Type 0 where
   pub source : r.source < g.nodes
   pub target : r.target < g.nodes
   pub apart : r.source ≡ r.target → ⊥
-  pub delay_some : 0 < delay_bound r
-  pub cost_some : 0 < cost_bound r
   pub coefficient_some : 0 < r.terms.coefficient
 
 -- ---- what it finds

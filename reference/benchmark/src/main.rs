@@ -9,6 +9,7 @@ mod goals;
 mod implementations;
 mod jobs;
 mod nets;
+mod places;
 mod plain;
 mod proved;
 mod requests;
@@ -18,15 +19,21 @@ mod timing;
 use std::process::ExitCode;
 
 fn tables() -> Result<(), String> {
+    let args: Vec<String> = std::env::args().skip(1).collect();
+    let mut places = places::Places::new(&args)?;
     let mut implementations = implementations::Implementations::new();
     let mut goals = goals::Goals::default();
-    tables::by_outcome(&mut implementations, &mut goals)?;
+    tables::by_outcome(&mut places, &mut implementations, &mut goals)?;
     println!();
-    tables::by_held_circuits(&mut implementations)?;
+    tables::by_held_circuits(&mut places, &mut implementations)?;
     println!();
-    tables::by_x(&mut implementations)?;
+    tables::by_x(&mut places, &mut implementations)?;
+    if places.writes() {
+        return Ok(());
+    }
     println!();
     goals.print();
+    places.print();
     println!();
     calls::worst()
 }

@@ -5,6 +5,7 @@ use crate::goals::Goals;
 use crate::implementations::{Call, Implementations};
 use crate::jobs::{with_outcome, Job};
 use crate::nets;
+use crate::places::Places;
 use crate::requests;
 use crate::timing::{measure, Times, REPETITIONS};
 use seeded::Random;
@@ -54,7 +55,7 @@ fn ring_jobs(
     with_outcome(implementations, n, outcome, JOBS, circuits, draw)
 }
 
-pub fn by_outcome(implementations: &mut Implementations, goals: &mut Goals) -> Result<(), String> {
+pub fn by_outcome(places: &mut Places, implementations: &mut Implementations, goals: &mut Goals) -> Result<(), String> {
     println!("Microseconds for a call: median of {REPETITIONS} interleaved repetitions over {JOBS} nets and requests.");
     println!("{HELD} circuits are held. An admission is timed with its release; where refused, alone.");
     heading("  n    m  outcome      call     ");
@@ -62,7 +63,7 @@ pub fn by_outcome(implementations: &mut Implementations, goals: &mut Goals) -> R
         for outcome in Outcome::ALL {
             let mut jobs = ring_jobs(implementations, (n, m), outcome, HELD)?;
             for (call, name) in CALLS {
-                let times = measure(implementations, call, &mut jobs);
+                let times = measure(places, implementations, call, &mut jobs)?;
                 row(&format!("{n:>3}{m:>5}  {:<11}  {name:<9}", outcome.name()), &times);
                 goals.take((n, m), &format!("({n}, {m}), {}, {name}", outcome.name()), &times);
             }
@@ -71,7 +72,7 @@ pub fn by_outcome(implementations: &mut Implementations, goals: &mut Goals) -> R
     Ok(())
 }
 
-pub fn by_held_circuits(implementations: &mut Implementations) -> Result<(), String> {
+pub fn by_held_circuits(places: &mut Places, implementations: &mut Implementations) -> Result<(), String> {
     println!("The same by the number of circuits held, for problem one: a quote, then an admission with its release.");
     let columns = "    proved  of all rounds  of early stop";
     println!("  n    m  held{columns}{columns}");
@@ -80,7 +81,7 @@ pub fn by_held_circuits(implementations: &mut Implementations) -> Result<(), Str
             let mut jobs = ring_jobs(implementations, (n, m), Outcome::ProblemOne, circuits)?;
             print!("{n:>3}{m:>5}{circuits:>6}");
             for (call, _) in CALLS {
-                let times = measure(implementations, call, &mut jobs);
+                let times = measure(places, implementations, call, &mut jobs)?;
                 print!("{:>10.2}{:>15.2}{:>15.2}", times.proved, times.of_all_rounds(), times.of_early_stop());
             }
             println!();
@@ -113,7 +114,7 @@ fn slow_jobs(implementations: &mut Implementations, (n, m): (u32, u32)) -> Resul
     Ok(vec![job])
 }
 
-pub fn by_x(implementations: &mut Implementations) -> Result<(), String> {
+pub fn by_x(places: &mut Places, implementations: &mut Implementations) -> Result<(), String> {
     let (n, m) = (32, 256);
     println!("Quotes by x: {n} nodes in a row, {m} links between neighbours, {LONG_JOBS} nets, no circuits held.");
     println!("The last row has a net on which neither problem ends its rounds early.");
@@ -121,12 +122,12 @@ pub fn by_x(implementations: &mut Implementations) -> Result<(), String> {
     for t in [1, 4, 8, 16, 31] {
         for outcome in [Outcome::ProblemOne, Outcome::Refused] {
             let mut jobs = row_jobs(implementations, (n, m), t, outcome)?;
-            let times = measure(implementations, Call::Quote, &mut jobs);
+            let times = measure(places, implementations, Call::Quote, &mut jobs)?;
             row(&format!("{:>3}  {:<22}", 8 * t, outcome.name()), &times);
         }
     }
     let mut jobs = slow_jobs(implementations, (n, m))?;
-    let times = measure(implementations, Call::Quote, &mut jobs);
+    let times = measure(places, implementations, Call::Quote, &mut jobs)?;
     row(&format!("{:>3}  {:<22}", 8 * (n - 1), "refused 10, all rounds"), &times);
     Ok(())
 }

@@ -2,6 +2,7 @@
 
 use crate::implementations::{Call, Implementations, Which};
 use crate::jobs::Job;
+use crate::places::Places;
 use std::hint::black_box;
 use std::time::Instant;
 
@@ -47,7 +48,7 @@ pub fn median(mut times: Vec<f64>) -> f64 {
 }
 
 /// Each repetition has a turn of each implementation, and each repetition another one goes first.
-pub fn measure(implementations: &mut Implementations, call: Call, jobs: &mut [Job]) -> Times {
+fn turns(implementations: &mut Implementations, call: Call, jobs: &mut [Job]) -> Times {
     let mut times = [(); 4].map(|()| Vec::with_capacity(REPETITIONS));
     for repetition in 0..REPETITIONS {
         for place in 0..TURNS.len() {
@@ -57,4 +58,14 @@ pub fn measure(implementations: &mut Implementations, call: Call, jobs: &mut [Jo
     }
     let [proved, all_rounds, early_stop, own_stop] = times.map(median);
     Times { proved, all_rounds, early_stop, own_stop }
+}
+
+/// The times of a row: from the clock, or the least of those that this program had at other places.
+pub fn measure(
+    places: &mut Places,
+    implementations: &mut Implementations,
+    call: Call,
+    jobs: &mut [Job],
+) -> Result<Times, String> {
+    places.times(|| turns(implementations, call, jobs))
 }

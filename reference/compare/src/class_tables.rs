@@ -4,15 +4,15 @@ use crate::cases::Call;
 use seeded::Random;
 
 /// The least and the greatest of units, D, C and coefficient.
-pub const RANGES: [(u32, u32); 4] = [(1, 65_535), (1, 31_000_000), (1, 31_000_000), (1, 8)];
+pub const RANGES: [(u32, u32); 4] = [(1, 65_535), (0, 31_000_000), (0, 31_000_000), (1, 8)];
 
 /// Word counts on both sides of every limit.
 pub const COUNTS: [usize; 13] = [0, 1, 2, 3, 4, 5, 7, 8, 252, 255, 256, 257, 260];
 
-/// The numbers at and past both ends of the range of a word.
-pub fn ends(place: usize) -> [u32; 4] {
+/// The numbers at and past both ends of the range of a word; nothing is below a bound of 0.
+pub fn ends(place: usize) -> Vec<u32> {
     let (least, greatest) = RANGES[place % 4];
-    [least - 1, least, greatest, greatest + 1]
+    least.checked_sub(1).into_iter().chain([least, greatest, greatest + 1]).collect()
 }
 
 fn number(rng: &mut Random, place: usize) -> u32 {

@@ -4,7 +4,7 @@
 use document01::Rule;
 
 /// The name by which `compare --fault NAME` switches it on, and the rule that is broken.
-pub const FAULTS: [(&str, Rule); 20] = [
+pub const FAULTS: [(&str, Rule); 24] = [
     ("scaled-down", Rule::RoundUp),
     ("total-scaled-once", Rule::ScaleEachLink),
     ("problem-two-first", Rule::ProblemOneFirst),
@@ -25,4 +25,8 @@ pub const FAULTS: [(&str, Rule); 20] = [
     ("class-before-its-table", Rule::TableBeforeClass),
     ("first-row-alone-checked", Rule::EveryRow),
     ("full-class-table-refused", Rule::FullClassTable),
+    ("zero-bound-refused", Rule::ZeroBounds),
+    ("zero-bound-no-bound", Rule::ZeroBinds),
+    ("zero-bound-scaled-to-x", Rule::ZeroOverX),
+    ("zero-bound-as-one", Rule::ZeroIsNotOne),
 ];

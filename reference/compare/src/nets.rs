@@ -11,6 +11,8 @@ pub enum Style {
     Ties,
     /// Many links without delay or without cost, and loops of them.
     Zeros,
+    /// Free lines beside paid ones that are shorter, as on the net of docs/free-lines.md.
+    FreeLines,
     /// Several links between the same nodes.
     Parallel,
     /// Weights as in the paper's section 2.4.
@@ -56,8 +58,9 @@ pub fn style(rng: &mut Random) -> Style {
         0..=7 => Style::Document,
         8..=17 => Style::Tiny,
         18..=35 => Style::Ties,
-        36..=49 => Style::Zeros,
-        50..=61 => Style::Parallel,
+        36..=46 => Style::Zeros,
+        47..=53 => Style::FreeLines,
+        54..=61 => Style::Parallel,
         62..=72 => Style::Paper,
         73..=80 => Style::Extremes,
         81..=84 => Style::Roomy,
@@ -86,6 +89,7 @@ fn draw(style: Style) -> Draw {
         Style::Document | Style::Tiny => ((2, 4), (0, 10), (0, 4), (0, 4), (0, 4)),
         Style::Ties => ((4, 7), (8, 22), (0, 2), (0, 2), (1, 6)),
         Style::Zeros => ((3, 7), (5, 20), (0, 3), (0, 3), (1, 6)),
+        Style::FreeLines => ((4, 8), (8, 24), (0, 9), (0, 9), (1, 6)),
         Style::Parallel => ((2, 4), (4, 24), (0, 9), (0, 9), (1, 5)),
         Style::Paper => ((5, 12), (8, 40), (0, 50), (0, 200), (2, 20)),
         Style::Extremes => ((3, 7), (3, 16), (0, 1_000_000), (0, 1_000_000), (0, 65_535)),
@@ -117,6 +121,7 @@ fn ends(rng: &mut Random, style: Style, n: u32, i: u32) -> (u32, u32) {
 fn number(rng: &mut Random, style: Style, (low, high): (u32, u32)) -> u32 {
     match style {
         Style::Zeros if rng.one_in(2) => 0,
+        Style::FreeLines if !rng.one_in(3) => 0,
         Style::Extremes => rng.pick(&[low, low + 1, high - 1, high, high / 2]),
         Style::HeavyLine if rng.one_in(2) => high,
         _ => rng.range(low, high),

@@ -1,4 +1,4 @@
-//! Requests: some drawn at large, some around the weights of a walk that is there, some out of range.
+//! Requests: some drawn at large, some around the weights of a walk that is there, some with bounds of 0, some out of range.
 
 use crate::nets::Net;
 use document01::table::MOST_BOUND;
@@ -26,7 +26,7 @@ fn walk(rng: &mut Random, net: &Net) -> (u32, u32, u32, u32) {
 }
 
 fn bound(weight: u32) -> u32 {
-    weight.clamp(1, MOST_BOUND)
+    weight.min(MOST_BOUND)
 }
 
 /// A bound at a weight, a little off it, or with more room.
@@ -37,7 +37,7 @@ fn around(rng: &mut Random, weight: u32, scale: u32) -> u32 {
         2 => weight + rng.range(0, scale),
         3 => weight + weight / 2,
         4 => 2 * weight,
-        _ => rng.range(1, 4 * scale),
+        _ => rng.range(0, 4 * scale),
     })
 }
 
@@ -52,6 +52,12 @@ pub fn request(rng: &mut Random, net: &Net) -> Request {
         3 => (bound(delay), bound(4 * cost + 1)),
         4 => (bound(4 * delay + 1), bound(4 * cost + 1)),
         _ => (around(rng, delay, net.delay_scale), around(rng, cost, net.cost_scale)),
+    };
+    let (delay_bound, cost_bound) = match rng.range(0, 11) {
+        0 => (0, bound(cost + rng.range(0, net.cost_scale))),
+        1 => (bound(delay + rng.range(0, net.delay_scale)), 0),
+        2 => (0, 0),
+        _ => (delay_bound, cost_bound),
     };
     let coefficient = rng.pick(&[1, 1, 2, 2, 3, 4, 5, 6, 7, 8]);
     let request = Request { s, t, units, delay_bound, cost_bound, coefficient };

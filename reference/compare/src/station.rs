@@ -58,6 +58,10 @@ impl Station {
             require(self.area.same_from(0), "a call that books nothing changed the area")?;
         }
         tally.saw(name, answer.code);
+        if let (Call::Quote { request, .. } | Call::Admit { request, .. }, 0 | 10) = (call, answer.code) {
+            let problem = answer.numbers.first().copied().unwrap_or(0);
+            tally.searched(request.delay_bound, request.cost_bound, problem);
+        }
         if !answer.path.is_empty() {
             let links = self.ledger.as_ref().map_or(0, |ledger| ledger.table.links.len());
             tally.granted(answer.numbers[0], answer.path.len(), links);

@@ -16,6 +16,8 @@ pub struct Tally {
     /// Classes of an accepted table, by how far they are from its row count: below, at and past it.
     classes: BTreeSet<i64>,
     problems: [u64; 3],
+    /// Requests that passed the checks with a bound of 0: for D, for C or for both, and which problem granted, or 0.
+    zero_bounds: BTreeMap<((bool, bool), u32), u64>,
     /// The links of the longest path that was granted, and the grants among 256 links.
     longest: usize,
     full: u64,
@@ -37,6 +39,10 @@ const DUE: [(&str, &[u32]); 10] = [
     ("read link file", &[0, 17, 18, 19]),
 ];
 
+/// What has to come up where D, C or both are 0. A job that may cost nothing is never granted by problem two.
+const ZERO_BOUNDS: [((bool, bool), &str, &[u32]); 3] =
+    [((true, false), "D = 0", &[0, 1, 2]), ((false, true), "C = 0", &[0, 1]), ((true, true), "both 0", &[0, 1])];
+
 impl Tally {
     pub fn saw(&mut self, call: &'static str, number: u32) {
         self.calls += 1;
@@ -48,6 +54,14 @@ impl Tally {
         self.problems[problem as usize] += 1;
         self.longest = self.longest.max(path);
         self.full += u64::from(table == 256);
+    }
+
+    /// A search that ended: with a grant by this problem, or with 0 for a refusal by 10.
+    pub fn searched(&mut self, delay_bound: u32, cost_bound: u32, problem: u32) {
+        let zero = (delay_bound == 0, cost_bound == 0);
+        if zero != (false, false) {
+            *self.zero_bounds.entry((zero, problem)).or_default() += 1;
+        }
     }
 
     pub fn damaged(&mut self, field: Field, formed: bool) {
@@ -81,6 +95,9 @@ impl Tally {
         self.repeated += other.repeated;
         self.longest = self.longest.max(other.longest);
         self.full += other.full;
+        for (key, count) in &other.zero_bounds {
+            *self.zero_bounds.entry(*key).or_default() += count;
+        }
         for (key, count) in &other.numbers {
             *self.numbers.entry(*key).or_default() += count;
         }
@@ -125,6 +142,14 @@ impl Tally {
                 missing.push(format!("problem {problem} never granted"));
             }
         }
+        for (bounds, name, outcomes) in ZERO_BOUNDS {
+            for outcome in outcomes.iter().filter(|&&outcome| !self.zero_bounds.contains_key(&(bounds, outcome))) {
+                missing.push(format!(
+                    "no request with {name} was {}",
+                    ["refused with 10", "granted by one", "granted by two"][*outcome as usize]
+                ));
+            }
+        }
         if self.longest < 31 || self.full == 0 {
             missing.push("no path of 31 links was granted, or none among 256 links".to_string());
         }
@@ -143,6 +168,13 @@ impl Tally {
         let formed: u64 = self.damaged.iter().filter(|((_, formed), _)| *formed).map(|(_, count)| count).sum();
         println!("  damaged areas   not well formed: {spoilt}  still well formed: {formed}");
         println!("  grants          problem one: {}  problem two: {}", self.problems[1], self.problems[2]);
+        for (bounds, name, outcomes) in ZERO_BOUNDS {
+            let counts: Vec<String> = outcomes
+                .iter()
+                .map(|&outcome| self.zero_bounds.get(&(bounds, outcome)).unwrap_or(&0).to_string())
+                .collect();
+            println!("  {name:<16}refused, by one and by two: {}", counts.join("  "));
+        }
         println!("                  among 256 links: {}  most links of a path: {}", self.full, self.longest);
         println!("  same network and request again, same path: {}", self.repeated);
         println!("  calls replayed with the quotes struck: {}", self.replayed);

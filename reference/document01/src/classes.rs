@@ -31,7 +31,7 @@ fn whole_rows(mut words: &[u32], rules: Rules) -> Option<Vec<Row>> {
 pub fn checked(words: &[u32], rules: Rules) -> Result<Vec<Row>, u32> {
     let rows = whole_rows(words, rules).ok_or(20u32)?;
     let looked_at = if rules.hold(Rule::EveryRow) { &rows[..] } else { &rows[..1] };
-    if looked_at.iter().all(|&row| request(row, 0, 1).in_range(2)) {
+    if looked_at.iter().all(|&row| request(row, 0, 1).in_range(2, rules)) {
         Ok(rows)
     } else {
         Err(21)

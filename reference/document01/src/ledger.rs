@@ -81,7 +81,7 @@ impl Ledger {
             Some(6)
         } else if path < PATH_WORDS {
             Some(7)
-        } else if !request.in_range(self.table.n) {
+        } else if !request.in_range(self.table.n, self.rules) {
             Some(8)
         } else {
             None

@@ -42,6 +42,9 @@ pub struct Search<'a> {
     rules: Rules,
 }
 
+/// More than any path of links in their ranges is scaled to.
+const BARRED: u64 = 1 << 40;
+
 fn sum(weights: &[u64], path: &[u32]) -> u64 {
     path.iter().map(|&number| weights[number as usize]).sum()
 }
@@ -72,8 +75,18 @@ impl<'a> Search<'a> {
         self.table.links.iter().map(|link| u64::from(link.cost)).collect()
     }
 
-    /// Formula 1, for a weight of a link.
+    /// Formula 1, for a weight of a link. Where nothing may be spent there is nothing to scale: a link that weighs something
+    /// is barred, by a weight that no path can have, and the others are free.
     fn scale(&self, weight: u64, bound: u64) -> u64 {
+        if bound == 0 {
+            return match weight {
+                0 => 0,
+                _ if !self.rules.hold(Rule::ZeroBinds) => 0,
+                _ if !self.rules.hold(Rule::ZeroOverX) => self.x,
+                _ if !self.rules.hold(Rule::ZeroIsNotOne) => weight * self.x,
+                _ => BARRED,
+            };
+        }
         if self.rules.hold(Rule::RoundUp) {
             (weight * self.x).div_ceil(bound)
         } else {

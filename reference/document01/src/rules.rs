@@ -42,6 +42,14 @@ pub enum Rule {
     EveryRow,
     /// A class table may have 64 rows. Broken: 63 at most.
     FullClassTable,
+    /// A bound of 0 is in its range. Broken: it is not.
+    ZeroBounds,
+    /// With a bound of 0 nothing may be spent. Broken: it is no bound, and every link is as good as free.
+    ZeroBinds,
+    /// Where nothing may be spent, one link that weighs something is too much. Broken: it is scaled to x.
+    ZeroOverX,
+    /// A bound of 0 is less than a bound of 1. Broken: it is read as 1.
+    ZeroIsNotOne,
 }
 
 /// Document 01's rules, all of them or all but one.

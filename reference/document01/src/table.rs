@@ -1,5 +1,7 @@
 //! Links, a link table with its ranges, and a request with its own.
 
+use crate::rules::{Rule, Rules};
+
 pub const MOST_NODES: u32 = 32;
 pub const MOST_LINKS: usize = 256;
 pub const LINK_WORDS: usize = 5;
@@ -91,13 +93,14 @@ pub struct Request {
 
 impl Request {
     /// Check 8.
-    pub fn in_range(&self, n: u32) -> bool {
+    pub fn in_range(&self, n: u32, rules: Rules) -> bool {
+        let least = u32::from(!rules.hold(Rule::ZeroBounds));
         self.s < n
             && self.t < n
             && self.s != self.t
             && (1..=MOST_UNITS).contains(&self.units)
-            && (1..=MOST_BOUND).contains(&self.delay_bound)
-            && (1..=MOST_BOUND).contains(&self.cost_bound)
+            && (least..=MOST_BOUND).contains(&self.delay_bound)
+            && (least..=MOST_BOUND).contains(&self.cost_bound)
             && (1..=8).contains(&self.coefficient)
     }
 }

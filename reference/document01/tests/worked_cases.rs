@@ -80,7 +80,7 @@ fn the_class_lines_of_net_a() {
     assert_eq!(class(6), Err(16));
 }
 
-/// Words, a class, and what the check and the class give, by hand from Req 01.
+/// Words, a class, and what the check and the class give, by hand.
 #[test]
 fn class_tables() {
     let card = [1, 400, 60, 8];
@@ -89,7 +89,7 @@ fn class_tables() {
         rows[place] = number;
         rows
     };
-    let cases: [(Vec<u32>, u32, Result<classes::Row, u32>); 15] = [
+    let cases: [(Vec<u32>, u32, Result<classes::Row, u32>); 17] = [
         (vec![], 0, Err(20)),
         (vec![1; 3], 0, Err(20)),
         (vec![1; 5], 0, Err(20)),
@@ -102,7 +102,9 @@ fn class_tables() {
         (card.repeat(64), 64, Err(16)),
         (with(4, 65_536), 0, Err(21)),
         (with(5, 31_000_001), 9, Err(21)),
-        (with(6, 0), 0, Err(21)),
+        (with(6, 0), 1, Ok([1, 400, 0, 8])),
+        (with(5, 0), 1, Ok([1, 0, 60, 8])),
+        (with(4, 0), 0, Err(21)),
         (with(7, 9), 0, Err(21)),
         (vec![0; 6], 9, Err(20)),
     ];
