@@ -37,19 +37,22 @@ net_f = area links_f
 abbrev pub FreeNetLoaded : Type 0
 FreeNetLoaded = load_answer blank 4 links_f ≡ grants tt
 
--- the free path, and the one without a delay
-abbrev pub free : List ℕ
-free = 0 ∷ 1 ∷ 2 ∷ []
+-- the path of free links, and the one of links without a delay
+abbrev pub free_links : List ℕ
+free_links = 0 ∷ 1 ∷ 2 ∷ []
 
-abbrev pub instant : List ℕ
-instant = 4 ∷ 1 ∷ 5 ∷ []
+abbrev pub instant_links : List ℕ
+instant_links = 4 ∷ 1 ∷ 5 ∷ []
 
 abbrev pub by_free : PathReply
-by_free = granting One 6 0 free
+by_free = granting One 6 0 free_links
 
 -- ---- the calls
 abbrev pub f4 : Request
 f4 = asks 1 10 0 8
+
+abbrev pub f8 : Request
+f8 = asks 1 0 10 8
 
 -- both units of link 1 are booked by case 7
 abbrev pub f7 : Request
@@ -85,11 +88,11 @@ free_cases =
     ∷ case 6 net_f (Quote (asks 3 10 0 8)) (refuses 10)
     -- link 1 full; with one tariff point the paid link
     ∷ case 7 net_f (Admission f7_circuit f7) by_free
-    ∷ case 7 net_f7 (Quote (asks 1 10 0 8)) (refuses 10)
+    ∷ case 7 net_f7 (Quote f4) (refuses 10)
     ∷ case 7 net_f7 (Quote (asks 1 10 1 8)) (granting One 4 1 (3 ∷ []))
     -- D = 0: by problem one; by problem two where x is too coarse for problem one; C too small
-    ∷ case 8 net_f (Quote (asks 1 0 10 8)) (granting One 0 10 instant)
-    ∷ case 9 net_f (Quote (asks 1 0 10 5)) (granting Two 0 10 instant)
+    ∷ case 8 net_f (Quote f8) (granting One 0 10 instant_links)
+    ∷ case 9 net_f (Quote (asks 1 0 10 5)) (granting Two 0 10 instant_links)
     ∷ case 10 net_f (Quote (asks 1 0 9 8)) (refuses 10)
     -- both 0
     ∷ case 11 net_f (Quote (asking 1 2 1 0 0 1)) (granting One 0 0 (1 ∷ []))
@@ -104,7 +107,7 @@ pub record FreeFigures : Type 0 where
   -- case 4: the paid link alone gives the distance, so x is 8; the free path meets the inequality as 0 ≤ 0, the paid link does
   -- not, and is scaled to x + 1
   pub f4_distance : Distance (net_for net_f f4) 0 3 1
-  pub f4_free : Overqualified 8 0 (length free) (sum (net_for net_f f4).cost free)
+  pub f4_free : Overqualified 8 0 (length free_links) (sum (net_for net_f f4).cost free_links)
   pub f4_paid : Overqualified 8 0 1 1 → ⊥
   pub f4_scaled : scaled 8 0 1 ≡ 9
   -- cases 8 and 9: the two paid links are scaled to 4 each at x = 8, and to 3 each at x = 5

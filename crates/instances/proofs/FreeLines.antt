@@ -15,8 +15,8 @@ use Rattle.network.proofs.Paths.{path_of_lem}
 use Rattle.network.proofs.Bounds.{solution_one_within, costless_by_one}
 use Rattle.ledger.specs.Sentences.{Feasible, ZeroBound}
 use Rattle.cases.specs.Document01.{m3}
-use Rattle.cases.specs.FreeLines.{free, instant}
-use Rattle.instances.specs.Nets.{net_f, slow, costless, delayless}
+use Rattle.cases.specs.FreeLines.{f4, f8, free_links, instant_links}
+use Rattle.instances.specs.Nets.{net_f, slow}
 
 -- ---- one link
 -- with a bound of 0: nothing is scaled to 0, anything to x + 1, whatever it weighs; with a bound of 1 as before
@@ -31,37 +31,37 @@ x_wanted = (omega arith, omega arith)
 
 -- ---- problems on the net of free lines
 -- links 0, 1 and 2 cost nothing; link 3 does, as little as can be, and is over x = 8
-pub free_solves : Solves net_f (problem_one net_f costless 8) 0 3 free
+pub free_solves : Solves net_f (problem_one net_f f4 8) 0 3 free_links
 unfolding net_of problem_one scaled
-free_solves = record { path = path_of_lem net_f 0 3 free refl; within = omega arith; reduced = omega arith }
+free_solves = record { path = path_of_lem net_f 0 3 free_links refl; within = omega arith; reduced = omega arith }
 
-pub paid_unsolved : Solves net_f (problem_one net_f costless 8) 0 3 (3 ∷ []) → ⊥
+pub paid_unsolved : Solves net_f (problem_one net_f f4 8) 0 3 (3 ∷ []) → ⊥
 unfolding net_of problem_one scaled
 paid_unsolved h = let over = h.reduced in omega (arith, over)
 
 -- links 4, 1 and 5 take no time, and are within a kept bound of 0; the free path is not
-pub instant_solves : Solves net_f (problem_one net_f delayless 8) 0 3 instant
+pub instant_solves : Solves net_f (problem_one net_f f8 8) 0 3 instant_links
 unfolding net_of problem_one scaled
-instant_solves = record { path = path_of_lem net_f 0 3 instant refl; within = omega arith; reduced = omega arith }
+instant_solves = record { path = path_of_lem net_f 0 3 instant_links refl; within = omega arith; reduced = omega arith }
 
-pub free_too_slow : Solves net_f (problem_two net_f delayless 8) 0 3 free → ⊥
+pub free_too_slow : Solves net_f (problem_two net_f f8 8) 0 3 free_links → ⊥
 unfolding net_of problem_two scaled
 free_too_slow h = let over = h.reduced in omega (arith, over)
 
 -- ---- bounds of 0, and paths that keep both
-pub zero_cost : ZeroBound costless
+pub zero_cost : ZeroBound f4
 zero_cost = inr refl
 
-pub zero_delay : ZeroBound delayless
+pub zero_delay : ZeroBound f8
 zero_delay = inl refl
 
 pub m3_bounds : ZeroBound m3 → ⊥
 m3_bounds (inl e) = omega (arith, e)
 m3_bounds (inr e) = omega (arith, e)
 
-pub free_feasible : Feasible net_f costless
+pub free_feasible : Feasible net_f f4
 unfolding net_of
-free_feasible = (free, path_of_lem net_f 0 3 free refl, record { delay = omega arith; cost = omega arith })
+free_feasible = (free_links, path_of_lem net_f 0 3 free_links refl, record { delay = omega arith; cost = omega arith })
 
 -- where no time may pass
 pub slow_infeasible : Feasible slow (asking 0 1 1 0 5 8) → ⊥

@@ -1,5 +1,5 @@
--- A request's terms: the least and the greatest of every range are taken, bounds of 0 among them, and one less or one more of
--- any is not.
+-- A request's terms: the least and the greatest of every range are taken, bounds of 0 among them, and one less or one more is
+-- not; nothing is less than a bound of 0.
 -- Assumes nothing.
 use Prim.Native.Nat.{◌+◌, ◌-◌}
 use mathlib.Core.Path.{◌≡◌, refl}

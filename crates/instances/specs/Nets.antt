@@ -1,4 +1,4 @@
--- What the instances are about: document 01's net A and net B and the net of free lines as networks, and requests on them
+-- What the instances are about: document 01's net A and net B and the net of free lines as networks, and requests on net A
 -- beside those that `cases` names.
 -- Assumes nothing.
 use Rattle.std.specs.Prelude.{ℕ, true, List, [], ◌∷◌, replicate}
@@ -46,10 +46,3 @@ m4 = asks 1 8 15 8
 
 abbrev pub m6 : Request
 m6 = asks 1 9 20 8
-
--- ---- requests with a bound of 0, from 0 to 3 on the net of free lines: C = 0, and D = 0
-abbrev pub costless : Request
-costless = asks 1 10 0 8
-
-abbrev pub delayless : Request
-delayless = asks 1 0 10 8

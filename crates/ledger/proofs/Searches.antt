@@ -11,7 +11,7 @@ use Rattle.network.specs.Reduce.{one, two, WithinBounds}
 use Rattle.network.specs.declared.Request.{Request}
 use Rattle.network.specs.declared.answer.Reduction.{Reduction}
 use Rattle.network.specs.declared.answer.Reduction.TheVariants.{One, Two}
-use Rattle.network.proofs.Bounds.{x_positive, one_distance, solution_one_within, solution_two_within, overqualified_solves_one, overqualified_solves_two, costless_solves_one, delayless_solves_two}
+use Rattle.network.proofs.Bounds.{x_some, one_distance, solution_one_within, solution_two_within, overqualified_solves_one, overqualified_solves_two, costless_solves_one, delayless_solves_two}
 use Rattle.search.specs.Result.{Unsolved, GrantedByOne, GrantedByTwo}
 use Rattle.area.specs.Refusals.{refuses, grants, IsRefused, IsGranted, Answered}
 use Rattle.rules.specs.Requests.{RequestFits}
@@ -46,15 +46,15 @@ module _ (g : Net) (r : Request) where
       (λ refused. absurd (granted_not_refused b refused.0 (sym refused.1)), λ none. absurd (none (grant_solvable b h.1)))
 
   module _ (n : ℕ) (fits : RequestFits n r) where
-    x_some : (k : ℕ) → Distance g r.source r.target k → 0 < r.terms.coefficient * k
-    x_some k far = x_positive g r.source r.target k r.terms.coefficient fits.apart fits.terms.coefficient_least far
+    some : (k : ℕ) → Distance g r.source r.target k → 0 < r.terms.coefficient * k
+    some = x_some g r fits.terms.coefficient_least fits.apart
 
     -- Theorem 2
     overqualified_solvable : Overqualifies g r → Solvable g r
     overqualified_solvable (k, far, (p, path, inl h)) =
-        (k, far, (p, inl (overqualified_solves_one g r (r.terms.coefficient * k) p (x_some k far) path h.0 h.1)))
+        (k, far, (p, inl (overqualified_solves_one g r (r.terms.coefficient * k) p (some k far) path h.0 h.1)))
     overqualified_solvable (k, far, (p, path, inr h)) =
-        (k, far, (p, inr (overqualified_solves_two g r (r.terms.coefficient * k) p (x_some k far) path h.0 h.1)))
+        (k, far, (p, inr (overqualified_solves_two g r (r.terms.coefficient * k) p (some k far) path h.0 h.1)))
 
     -- an overqualified path is always enough
     pub search_enough : (a : PathReply) → Answered (Grant g r) (search_rules g r) a → Overqualifies g r → IsGranted a
@@ -67,9 +67,9 @@ module _ (g : Net) (r : Request) where
     by_either : (p : List ℕ) (which : Reduction) → ((which ≡ One) × GrantedByOne g r p) ⊎ ((which ≡ Two) × GrantedByTwo g r p)
         → IsPath g r.source r.target p × WithinBounds g r p
     by_either p which (inl (e, h)) =
-        (h.2.solves.path, solution_one_within g r (r.terms.coefficient * h.0) p (x_some h.0 h.1) h.2.solves)
+        (h.2.solves.path, solution_one_within g r (r.terms.coefficient * h.0) p (some h.0 h.1) h.2.solves)
     by_either p which (inr (e, h)) =
-        (h.3.solves.path, solution_two_within g r (r.terms.coefficient * h.0) p (x_some h.0 h.1) h.3.solves)
+        (h.3.solves.path, solution_two_within g r (r.terms.coefficient * h.0) p (some h.0 h.1) h.3.solves)
 
     -- a granted path is one that meets both
     granted_feasible : (a : PathGrant) → Grant g r a → Feasible g r

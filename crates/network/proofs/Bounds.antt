@@ -15,7 +15,7 @@ use Rattle.network.specs.Net.{Net, IsPath, sum}
 use Rattle.network.specs.Scale.{scaled, Overqualified}
 use Rattle.network.specs.Problem.{Problem, Solves, Distance}
 use Rattle.network.specs.Reduce.{delay_bound, cost_bound, problem_one, problem_two, WithinBounds, Enough, Outcome, no_path, no_solution, granted, Found, none, unsolved, by_one, by_two}
-use Rattle.network.proofs.Scaling.{theorem_one, theorem_two, free_path}
+use Rattle.network.proofs.Scaling.{theorem_one, theorem_two, weightless_path}
 
 -- ---- the distance
 -- a path between two nodes has a link, so x is at least 1
@@ -36,15 +36,22 @@ one_distance g s t k k' far far' =
 abbrev reduced_by : (ℕ → ℕ) → ℕ → (ℕ → ℕ) → ℕ → ℕ → Problem
 reduced_by kept bound weight limit x = record { kept = kept; bound = bound; scaled_by = λ i. scaled x limit (weight i); x = x }
 
-module _ (g : Net) (kept : ℕ → ℕ) (bound : ℕ) (weight : ℕ → ℕ) (limit x s t : ℕ) (p : List ℕ) (some : 0 < x) where
+module _ (g : Net) (kept : ℕ → ℕ) (bound : ℕ) (weight : ℕ → ℕ) (limit x s t : ℕ) (p : List ℕ) where
   -- Theorem 1
-  solution_within : Solves g (reduced_by kept bound weight limit x) s t p → sum weight p ≤ limit
-  solution_within h = theorem_one x weight some limit p h.reduced
+  solution_within : 0 < x → Solves g (reduced_by kept bound weight limit x) s t p → sum weight p ≤ limit
+  solution_within some h = theorem_one x weight some limit p h.reduced
 
   -- Theorem 2
-  overqualified_solves : IsPath g s t p → sum kept p ≤ bound → Overqualified x limit (length p) (sum weight p)
+  overqualified_solves : 0 < x → IsPath g s t p → sum kept p ≤ bound → Overqualified x limit (length p) (sum weight p)
       → Solves g (reduced_by kept bound weight limit x) s t p
-  overqualified_solves path low over = record { path = path; within = low; reduced = theorem_two x weight some limit p over }
+  overqualified_solves some path low over =
+      record { path = path; within = low; reduced = theorem_two x weight some limit p over }
+
+  -- with a bound of 0 no path within both bounds is passed over: it has none of that weight, and nothing is not rounded up
+  weightless_solves : limit ≡ 0 → IsPath g s t p → sum kept p ≤ bound → sum weight p ≤ limit
+      → Solves g (reduced_by kept bound weight limit x) s t p
+  weightless_solves nought path low light =
+      record { path = path; within = low; reduced = omega (arith, weightless_path x weight limit p (omega arith)) }
 
 -- ---- the problems of a request
 module _ (g : Net) (r : Request) (x : ℕ) (p : List ℕ) (some : 0 < x) where
@@ -73,14 +80,12 @@ module _ (g : Net) (r : Request) (x : ℕ) (p : List ℕ) (some : 0 < x) where
       overqualified_solves g g.cost (cost_bound r) g.delay (delay_bound r) x _ _ p some path low over
 
 -- ---- a request with a bound of 0
--- No path within both bounds is passed over there: it weighs nothing where nothing may be spent, and nothing is not rounded up.
 module _ (g : Net) (r : Request) (x : ℕ) (p : List ℕ) where
   pub costless_solves_one : cost_bound r ≡ 0 → IsPath g r.source r.target p → WithinBounds g r p
       → Solves g (problem_one g r x) r.source r.target p
   unfolding problem_one
   costless_solves_one nought path h =
-      let free : sum g.cost p ≤ 0 = omega (arith, h.cost) in
-      record { path = path; within = h.delay; reduced = omega (arith, free_path x g.cost (cost_bound r) p free) }
+      weightless_solves g g.delay (delay_bound r) g.cost (cost_bound r) x _ _ p nought path h.delay h.cost
 
   -- so a job that may cost nothing is never granted by problem two
   pub costless_by_one : 0 < x → cost_bound r ≡ 0 → Solves g (problem_two g r x) r.source r.target p
@@ -91,8 +96,7 @@ module _ (g : Net) (r : Request) (x : ℕ) (p : List ℕ) where
       → Solves g (problem_two g r x) r.source r.target p
   unfolding problem_two
   delayless_solves_two nought path h =
-      let free : sum g.delay p ≤ 0 = omega (arith, h.delay) in
-      record { path = path; within = h.cost; reduced = omega (arith, free_path x g.delay (delay_bound r) p free) }
+      weightless_solves g g.cost (cost_bound r) g.delay (delay_bound r) x _ _ p nought path h.cost h.delay
 
 -- ---- what a search found
 -- the path of a grant meets both bounds
@@ -102,7 +106,8 @@ Bounded g r no_solution = Unit
 Bounded g r (granted which p) = WithinBounds g r p
 
 module _ (g : Net) (r : Request) (positive : 0 < r.terms.coefficient) (differ : r.source ≡ r.target → ⊥) where
-  x_some : (k : ℕ) → Distance g r.source r.target k → 0 < r.terms.coefficient * k
+  -- a request's x is at least 1
+  pub x_some : (k : ℕ) → Distance g r.source r.target k → 0 < r.terms.coefficient * k
   x_some k far = x_positive g _ _ k _ differ positive far
 
   bounded : (o : Outcome) → Found g r o → Bounded g r o
