@@ -1,5 +1,5 @@
 //! Where the linker puts the code decides how its loops lie in the blocks of 64 bytes that the processor fetches, and that is
-//! worth up to a fifth of a call. So ./benchmark links this program at several places. Each writes its rows' times to a file
+//! worth up to a third of a call. So ./benchmark links this program at several places. Each writes its rows' times to a file
 //! (--write FILE), and one prints the tables with the least that any of the files has for each time (FILE..).
 
 use crate::timing::Times;
