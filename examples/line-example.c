@@ -1,7 +1,7 @@
 /*
- * The C interface on document 01's net A: its link file is read and loaded, and then come quotes, an admission, a
- * listing and a release. The names M1 to M9 are document 01's cases; line-example.expected has its
- * figures, and what follows from its rules.
+ * The C interface on document 01's net A: its link file is read and loaded without hold times, and then come quotes, an
+ * admission, a listing and a release. Last it is loaded anew with a hold time for node 1, as of a radio repeater. The
+ * names M1 to M9 are document 01's cases; line-example.expected has its figures, and what follows from its rules.
  *
  *     tests/support/archive
  *     cc -Wall -Wextra -Werror -Iinclude examples/line-example.c target/staticlib/libline.a -o line-example
@@ -15,6 +15,8 @@ static uint32_t area[LINE_AREA_WORDS];
 static uint32_t work[LINE_WORK_WORDS];
 static uint32_t path[LINE_PATH_WORDS];
 static uint32_t table[LINE_TABLE_WORDS];
+/* The hold time of each node, in ms: 0 but where main sets it. */
+static uint32_t holds[LINE_MOST_NODES];
 static uint8_t file[65536];
 
 /* The refusal, or problem, delay, cost and links. */
@@ -71,8 +73,19 @@ static void free_units(uint32_t link)
         printf("free units of link %u: %u\n", (unsigned)link, (unsigned)units[0]);
 }
 
-/* Reads the link file and loads it. */
-static int load(const char *name)
+/* Loads the table with the hold times. A file may name more nodes than there are hold times here; its n is then refused. */
+static int load(const uint32_t size[2])
+{
+    size_t hold_words = size[0] < LINE_MOST_NODES ? size[0] : LINE_MOST_NODES;
+    uint32_t refusal = line_load(size[0], table, LINE_LINK_WORDS * (size_t)size[1], holds, hold_words, area,
+                                 LINE_AREA_WORDS);
+    if (refusal != LINE_GRANTED)
+        printf("load refused %u\n", (unsigned)refusal);
+    return refusal == LINE_GRANTED;
+}
+
+/* Reads the link file. */
+static int read_file(const char *name, uint32_t size[2])
 {
     FILE *stream = fopen(name, "rb");
     if (stream == NULL) {
@@ -81,25 +94,19 @@ static int load(const char *name)
     }
     size_t bytes = fread(file, 1, sizeof file, stream);
     fclose(stream);
-    uint32_t size[2];
     uint32_t refusal = line_read_link_file(file, bytes, table, LINE_TABLE_WORDS, size);
     if (refusal != LINE_GRANTED) {
         printf("file refused %u\n", (unsigned)refusal);
         return 0;
     }
     printf("file: %u nodes, %u links\n", (unsigned)size[0], (unsigned)size[1]);
-    refusal = line_load(size[0], table, LINE_LINK_WORDS * (size_t)size[1], area, LINE_AREA_WORDS);
-    if (refusal != LINE_GRANTED) {
-        printf("load refused %u\n", (unsigned)refusal);
-        return 0;
-    }
     return 1;
 }
 
 int main(int argc, char **argv)
 {
-    uint32_t classes[LINE_SAMPLE_WORDS], card[4];
-    if (argc != 2 || !load(argv[1]))
+    uint32_t classes[LINE_SAMPLE_WORDS], card[4], size[2];
+    if (argc != 2 || !read_file(argv[1], size) || !load(size))
         return 1;
 
     line_sample_classes(classes);
@@ -128,5 +135,15 @@ int main(int argc, char **argv)
     printf("release again: refused %u\n", (unsigned)line_release(area, LINE_AREA_WORDS, 7));
     list();
     free_units(0);
+
+    /* Node 1 lies between 0 and 3 on links 0 1 2, whose delay grows from 6 to 10: over D, so link 3 is left. From 0 to 1
+       it is the target, and its hold time does not count. */
+    quote("M6", 3, 1, 9, 20, 8);
+    quote("from 0 to 1", 1, 1, 9, 20, 8);
+    holds[1] = 4;
+    if (!load(size))
+        return 1;
+    quote("M6, node 1 holds 4 ms", 3, 1, 9, 20, 8);
+    quote("from 0 to 1, node 1 holds 4 ms", 1, 1, 9, 20, 8);
     return 0;
 }

@@ -18,6 +18,8 @@ static uint32_t table[LINE_TABLE_WORDS];
 /* One row more than a class table may have, so that a longer one shows. */
 static uint32_t rows[LINE_CLASS_WORDS + LINE_ROW_WORDS];
 static uint8_t file[65536];
+/* No node of the station holds a message. */
+static const uint32_t holds[LINE_MOST_NODES];
 
 /* Reads the link file and loads it; gives n, or 0 where it is refused. */
 static uint32_t load(const char *name)
@@ -31,8 +33,10 @@ static uint32_t load(const char *name)
     size_t bytes = fread(file, 1, sizeof file, stream);
     fclose(stream);
     uint32_t refusal = line_read_link_file(file, bytes, table, LINE_TABLE_WORDS, size);
+    /* A file may name more nodes than there are hold times here; its n is then refused. */
     if (refusal == LINE_GRANTED)
-        refusal = line_load(size[0], table, LINE_LINK_WORDS * (size_t)size[1], area, LINE_AREA_WORDS);
+        refusal = line_load(size[0], table, LINE_LINK_WORDS * (size_t)size[1], holds,
+                            size[0] < LINE_MOST_NODES ? size[0] : LINE_MOST_NODES, area, LINE_AREA_WORDS);
     if (refusal != LINE_GRANTED)
         printf("station %u\n", (unsigned)refusal);
     return refusal == LINE_GRANTED ? size[0] : 0;

@@ -23,7 +23,7 @@ extern "C" {
 #endif
 
 /* Least counts of words: a station area, work memory, a path buffer. */
-#define LINE_AREA_WORDS 3459
+#define LINE_AREA_WORDS 3491
 #define LINE_WORK_WORDS 16384
 #define LINE_PATH_WORDS 31
 
@@ -34,23 +34,28 @@ extern "C" {
 #define LINE_LINK_WORDS 5
 #define LINE_TABLE_WORDS 1280
 
-/* Where an area's links and circuits begin, and the words of a circuit: number, units, link count, path words. */
+/* Where an area's links, circuits and hold times begin, and the words of a circuit: number, units, link count, path words.
+   The hold time of node v is word LINE_FIRST_HOLD + v. In a well-formed area the first n hold words are at most
+   LINE_MOST_HOLD; the others, up to the 32nd, may be anything. */
 #define LINE_FIRST_LINK 3
 #define LINE_FIRST_CIRCUIT 1283
 #define LINE_CIRCUIT_WORDS 34
+#define LINE_FIRST_HOLD 3459
 
-/* Ranges of a net: a delay, a cost and a capacity may be 0. */
+/* Ranges of a net: a delay, a cost, a capacity and a hold time may be 0. */
 #define LINE_LEAST_NODES 2
 #define LINE_MOST_DELAY 1000000
 #define LINE_MOST_COST 1000000
 #define LINE_MOST_CAPACITY 65535
+#define LINE_MOST_HOLD 1000000
 
 /* Ranges of a request and of a circuit; x is the coefficient times the fewest links of any usable path. With a delay bound
-   or a cost bound of 0 nothing of that weight may be spent. */
+   or a cost bound of 0 nothing of that weight may be spent. A path's delay is its links' delays and the hold times of the
+   nodes between them, never of s or t: 31 links and 30 nodes take at most 61,000,000. */
 #define LINE_LEAST_UNITS 1
 #define LINE_MOST_UNITS 65535
 #define LINE_LEAST_BOUND 0
-#define LINE_MOST_DELAY_BOUND 31000000
+#define LINE_MOST_DELAY_BOUND 61000000
 #define LINE_MOST_COST_BOUND 31000000
 #define LINE_LEAST_COEFFICIENT 1
 #define LINE_MOST_COEFFICIENT 8
@@ -69,7 +74,7 @@ extern "C" {
 
 /* What a call returns: granted, or why it was refused. */
 #define LINE_GRANTED 0
-#define LINE_AREA_TOO_SHORT 1        /* load: the area has under 3,459 words */
+#define LINE_AREA_TOO_SHORT 1        /* load: the area has under 3,491 words */
 #define LINE_NODES_OUT_OF_RANGE 2    /* load: n is not 2 to 32 */
 #define LINE_TABLE_LENGTH 3          /* load: the words are no multiple of 5, or over 1,280 */
 #define LINE_LINK_OUT_OF_RANGE 4     /* load: a field of a link is out of range */
@@ -90,21 +95,27 @@ extern "C" {
 #define LINE_TABLE_TOO_SHORT 19      /* the table buffer has under 5 m words */
 #define LINE_CLASSES_LENGTH 20       /* class table: no words, or over 256, or no multiple of 4 */
 #define LINE_CLASSES_OUT_OF_RANGE 21 /* class table: a number of a row is out of range */
+#define LINE_HOLDS_OUT_OF_RANGE 22   /* load: the hold times are not n, or one is out of range */
 
 /*
- * Loads a link table, 5 words a link: from, to, delay, cost, capacity. It writes n, m, 0 and the links into the
- * area; the other words keep theirs.
- * Ranges: n 2 to 32; link_words a multiple of 5, at most 1,280; area_words at least 3,459; from below n; to below n
- * and not from; delay 0 to 1,000,000; cost 0 to 1,000,000; capacity 0 to 65,535.
- * Refusals: 1, 2, 3, 4.
+ * Loads a link table, 5 words a link: from, to, delay, cost, capacity; and n hold times, holds[v] for node v: the ms for
+ * which it holds each message before sending it on. It writes n, m, 0, the links and the n hold times into the area; the
+ * other words keep theirs, the hold words past n among them.
+ * Ranges: n 2 to 32; link_words a multiple of 5, at most 1,280; hold_words equal to n; area_words at least 3,491; from
+ * below n; to below n and not from; delay 0 to 1,000,000; cost 0 to 1,000,000; capacity 0 to 65,535; hold 0 to
+ * 1,000,000.
+ * Refusals: 1, 2, 3, 4, 22.
  */
-uint32_t line_load(uint32_t n, const uint32_t *links, size_t link_words, uint32_t *area, size_t area_words);
+uint32_t line_load(uint32_t n, const uint32_t *links, size_t link_words, const uint32_t *holds, size_t hold_words,
+                   uint32_t *area, size_t area_words);
 
 /*
  * Quotes a path from s to t: answer[0] to answer[3] are the problem (1 or 2), delay, cost and number of links; the
- * path's links stand in as many first words of path.
- * Ranges: area_words at least 3,459; work_words at least 16,384; path_words at least 31; s below n; t below n and not
- * s; units 1 to 65,535; delay_bound 0 to 31,000,000; cost_bound 0 to 31,000,000; coefficient 1 to 8.
+ * path's links stand in as many first words of path. The delay is the sum of the links' delays and of the hold times of
+ * the nodes between them; for summing and for scaling a link's delay includes the hold time of the node that it enters,
+ * unless that node is t.
+ * Ranges: area_words at least 3,491; work_words at least 16,384; path_words at least 31; s below n; t below n and not
+ * s; units 1 to 65,535; delay_bound 0 to 61,000,000; cost_bound 0 to 31,000,000; coefficient 1 to 8.
  * Refusals: 5, 6, 7, 8, 9, 10.
  */
 uint32_t line_quote(const uint32_t *area, size_t area_words, uint32_t *work, size_t work_words,
@@ -113,8 +124,8 @@ uint32_t line_quote(const uint32_t *area, size_t area_words, uint32_t *work, siz
 
 /*
  * Answers as a quote does, and adds the circuit to the area. Its number must not be held.
- * Ranges: area_words at least 3,459; work_words at least 16,384; path_words at least 31; circuit 1 to 65,535; s below
- * n; t below n and not s; units 1 to 65,535; delay_bound 0 to 31,000,000; cost_bound 0 to 31,000,000; coefficient 1
+ * Ranges: area_words at least 3,491; work_words at least 16,384; path_words at least 31; circuit 1 to 65,535; s below
+ * n; t below n and not s; units 1 to 65,535; delay_bound 0 to 61,000,000; cost_bound 0 to 31,000,000; coefficient 1
  * to 8.
  * Refusals: 5, 6, 7, 8, 11, 12, 9, 10.
  */
@@ -124,7 +135,7 @@ uint32_t line_admit(uint32_t *area, size_t area_words, uint32_t *work, size_t wo
 
 /*
  * Releases a circuit: it goes, and the others remain. Its number must be held.
- * Ranges: area_words at least 3,459; circuit 1 to 65,535.
+ * Ranges: area_words at least 3,491; circuit 1 to 65,535.
  * Refusals: 5, 13.
  */
 uint32_t line_release(uint32_t *area, size_t area_words, uint32_t circuit);
@@ -132,7 +143,7 @@ uint32_t line_release(uint32_t *area, size_t area_words, uint32_t circuit);
 /*
  * Lists the numbers of the h held circuits, each once and in no set order, in the first words of numbers; answer[0]
  * is h.
- * Ranges: area_words at least 3,459; number_words at least h, and 64 always suffice.
+ * Ranges: area_words at least 3,491; number_words at least h, and 64 always suffice.
  * Refusals: 5, 14.
  */
 uint32_t line_list(const uint32_t *area, size_t area_words, uint32_t *numbers, size_t number_words,
@@ -140,14 +151,14 @@ uint32_t line_list(const uint32_t *area, size_t area_words, uint32_t *numbers, s
 
 /*
  * answer[0] is the free units of a link.
- * Ranges: area_words at least 3,459; link below m.
+ * Ranges: area_words at least 3,491; link below m.
  * Refusals: 5, 15.
  */
 uint32_t line_free_units(const uint32_t *area, size_t area_words, uint32_t link, uint32_t answer[1]);
 
 /*
  * Checks a class table, 4 words a row: units, delay bound, cost bound, coefficient, in the ranges of a request.
- * Ranges: row_words a multiple of 4, from 4 to 256; units 1 to 65,535; delay_bound 0 to 31,000,000; cost_bound 0 to
+ * Ranges: row_words a multiple of 4, from 4 to 256; units 1 to 65,535; delay_bound 0 to 61,000,000; cost_bound 0 to
  * 31,000,000; coefficient 1 to 8.
  * Refusals: 20, 21.
  */
@@ -157,7 +168,7 @@ uint32_t line_check_classes(const uint32_t *rows, size_t row_words);
  * What a service class asks for, by a class table, which is checked first: answer[0] to answer[3] are the units, delay
  * bound, cost bound and coefficient of its row. Rows are numbered from 0.
  * Ranges: row_words a multiple of 4, from 4 to 256; service_class below the row count; units 1 to 65,535; delay_bound
- * 0 to 31,000,000; cost_bound 0 to 31,000,000; coefficient 1 to 8.
+ * 0 to 61,000,000; cost_bound 0 to 31,000,000; coefficient 1 to 8.
  * Refusals: 20, 21, 16.
  */
 uint32_t line_class(const uint32_t *rows, size_t row_words, uint32_t service_class, uint32_t answer[4]);

@@ -3,7 +3,8 @@
  * before; what no longer has the pattern was used. The figure is that less what a thread uses which calls an empty
  * function, so it counts the call's arguments, its return address and all that it calls.
  *
- * The net is the largest: 32 nodes in a row, 256 links, so that the distance is 31 and x is 248. 63 circuits are held.
+ * The net is the largest: 32 nodes in a row, 256 links, so that the distance is 31 and x is 248. Every hold time is the
+ * greatest. 63 circuits are held.
  */
 #define _GNU_SOURCE
 
@@ -20,6 +21,7 @@
 
 static unsigned char stack[STACK_BYTES] __attribute__((aligned(4096)));
 static uint32_t links[LINE_TABLE_WORDS];
+static uint32_t holds[LINE_MOST_NODES];
 static uint32_t table[LINE_TABLE_WORDS];
 static uint8_t file[4 * LINE_TABLE_WORDS + 16];
 static uint32_t area[LINE_AREA_WORDS];
@@ -29,11 +31,14 @@ static uint32_t numbers[LINE_MOST_CIRCUITS];
 static uint32_t rows[LINE_CLASS_WORDS];
 static uint32_t answer[4];
 static uint32_t code;
-static uint32_t bound;
+static uint32_t cost_bound;
+
+/* With this delay bound a link and the longest hold time behind it are scaled to 8, and the last link to 1. */
+static const uint32_t delay_bound = 31 * (LINE_MOST_HOLD + 10);
 
 /* Eight links of delay 10 from each node to the next, and a ninth from each of the first eight. Their costs are 10, but
-   11 and 9 at the first two nodes: with both bounds 310 problem one fails by one unit of scaled cost and problem two
-   does not. */
+   11 and 9 at the first two nodes: with a cost bound of 310 problem one fails by one unit of scaled cost and problem
+   two does not. */
 static void make_links(void)
 {
     for (uint32_t i = 0; i < LINE_MOST_LINKS; i++) {
@@ -42,6 +47,12 @@ static void make_links(void)
         const uint32_t link[LINE_LINK_WORDS] = {from, from + 1, 10, cost, 65535};
         memcpy(links + LINE_LINK_WORDS * i, link, sizeof link);
     }
+}
+
+static void make_holds(void)
+{
+    for (size_t i = 0; i < LINE_MOST_NODES; i++)
+        holds[i] = LINE_MOST_HOLD;
 }
 
 static void put_word(uint8_t *bytes, uint32_t word)
@@ -76,13 +87,13 @@ static void nothing(void)
 static void quote(void)
 {
     code = line_quote(area, LINE_AREA_WORDS, work, LINE_WORK_WORDS, path, LINE_PATH_WORDS, 0, LINE_MOST_NODES - 1, 1,
-                      bound, bound, 8, answer);
+                      delay_bound, cost_bound, 8, answer);
 }
 
 static void admit(void)
 {
     code = line_admit(area, LINE_AREA_WORDS, work, LINE_WORK_WORDS, path, LINE_PATH_WORDS, 64, 0, LINE_MOST_NODES - 1,
-                      1, bound, bound, 8, answer);
+                      1, delay_bound, cost_bound, 8, answer);
 }
 
 static void release(void)
@@ -92,7 +103,7 @@ static void release(void)
 
 static void load(void)
 {
-    code = line_load(LINE_MOST_NODES, links, LINE_TABLE_WORDS, area, LINE_AREA_WORDS);
+    code = line_load(LINE_MOST_NODES, links, LINE_TABLE_WORDS, holds, LINE_MOST_NODES, area, LINE_AREA_WORDS);
 }
 
 static void list(void)
@@ -167,23 +178,25 @@ static void hold_circuits(void)
 {
     for (uint32_t number = 1; number < LINE_MOST_CIRCUITS; number++)
         if (line_admit(area, LINE_AREA_WORDS, work, LINE_WORK_WORDS, path, LINE_PATH_WORDS, number, 0,
-                       LINE_MOST_NODES - 1, 1, 1000, 1000, 8, answer) != LINE_GRANTED)
+                       LINE_MOST_NODES - 1, 1, LINE_MOST_DELAY_BOUND, 1000, 8, answer) != LINE_GRANTED)
             exit(1);
 }
 
 int main(void)
 {
     make_links();
+    make_holds();
     make_file();
     make_rows();
-    printf("Bytes of stack for a call: 32 nodes in a row, 256 links, x = 248, 63 circuits held.\n");
+    printf("Bytes of stack for a call: 32 nodes in a row, 256 links, greatest hold times, x = 248, 63 circuits "
+           "held.\n");
     printf("call                  outcome       bytes\n");
     row("line_load", "loaded", load, LINE_GRANTED);
     hold_circuits();
-    bound = 309;
+    cost_bound = 309;
     row("line_quote", "refused 10", quote, LINE_NO_SOLUTION);
     row("line_admit", "refused 10", admit, LINE_NO_SOLUTION);
-    bound = 310;
+    cost_bound = 310;
     row("line_quote", "problem two", quote, LINE_GRANTED);
     row("line_admit", "problem two", admit, LINE_GRANTED);
     row("line_list", "listed", list, LINE_GRANTED);

@@ -6,13 +6,14 @@
 
 static const uint32_t net_a[20] = {0, 1, 2, 5, 10, 1, 2, 2, 5, 10, 2, 3, 2, 5, 10, 0, 3, 9, 1, 10};
 static const uint32_t net_f[30] = {0, 1, 3, 0, 5, 1, 2, 0, 0, 2, 2, 3, 3, 0, 5, 0, 3, 4, 1, 10, 0, 1, 0, 5, 10, 2, 3, 0, 5, 10};
+static const uint32_t no_holds[4] = {0, 0, 0, 0};
 
 static uint32_t area[LINE_AREA_WORDS], work[LINE_WORK_WORDS], path[LINE_PATH_WORDS], answer[4];
 static int failures;
 
 static void load(const uint32_t *links, size_t words)
 {
-    if (line_load(4, links, words, area, LINE_AREA_WORDS) != LINE_GRANTED) {
+    if (line_load(4, links, words, no_holds, 4, area, LINE_AREA_WORDS) != LINE_GRANTED) {
         printf("load: refused\n");
         failures++;
     }

@@ -18,8 +18,9 @@ static uint32_t rows[260];
 static uint32_t answer[4];
 static int failures = 0;
 
-/* Net A of document 01. */
+/* Net A of document 01, and hold times of 0, one more than a net may have. */
 static const uint32_t net[20] = {0, 1, 2, 5, 10, 1, 2, 2, 5, 10, 2, 3, 2, 5, 10, 0, 3, 9, 1, 10};
+static const uint32_t no_holds[LINE_MOST_NODES + 1];
 
 static void fill(uint32_t *words, size_t count, uint32_t word)
 {
@@ -80,17 +81,68 @@ static uint32_t admit(size_t area_words, size_t work_words, size_t path_words, u
                       answer);
 }
 
+static uint32_t load(const uint32_t *links, size_t link_words, const uint32_t *holds, size_t hold_words, size_t area_words)
+{
+    return line_load(4, links, link_words, holds, hold_words, area, area_words);
+}
+
 static void load_refusals(void)
 {
-    uint32_t links[20];
+    const size_t a = LINE_AREA_WORDS;
+    uint32_t links[20], holds[5] = {1000001, 0, 0, 0, 0};
     memcpy(links, net, sizeof net);
-    refused("load", line_load(1, net, 19, area, LINE_AREA_WORDS - 1), LINE_AREA_TOO_SHORT);
-    refused("load", line_load(1, net, 19, area, LINE_AREA_WORDS), LINE_NODES_OUT_OF_RANGE);
-    refused("load", line_load(33, net, 20, area, LINE_AREA_WORDS), LINE_NODES_OUT_OF_RANGE);
     links[4] = 65536;
-    refused("load", line_load(4, links, 19, area, LINE_AREA_WORDS), LINE_TABLE_LENGTH);
-    refused("load", line_load(4, links, 20, area, LINE_AREA_WORDS), LINE_LINK_OUT_OF_RANGE);
-    granted("load", line_load(4, net, 20, area, LINE_AREA_WORDS));
+    fill(area, LINE_AREA_WORDS, 1005);
+    ready();
+    refused("load", line_load(1, links, 19, holds, 5, area, a - 1), LINE_AREA_TOO_SHORT);
+    refused("load", line_load(1, links, 19, holds, 5, area, a), LINE_NODES_OUT_OF_RANGE);
+    refused("load", line_load(33, net, 20, no_holds, 33, area, a), LINE_NODES_OUT_OF_RANGE);
+    refused("load", load(links, 19, holds, 5, a), LINE_TABLE_LENGTH);
+    refused("load", load(links, 20, holds, 5, a), LINE_LINK_OUT_OF_RANGE);
+    refused("load", load(links, 20, holds, 4, a), LINE_LINK_OUT_OF_RANGE);
+    refused("load", load(net, 20, no_holds, 4, 3490), LINE_AREA_TOO_SHORT);
+    granted("load", load(net, 20, no_holds, 4, a));
+}
+
+/* A hold time for each node and no more, each on both sides of its limit. */
+static void hold_refusals(void)
+{
+    static const size_t counts[] = {0, 1, 3, 5, 32, 33};
+    const size_t a = LINE_AREA_WORDS;
+    uint32_t holds[5] = {0, 0, 0, 0, 0};
+    for (size_t i = 0; i < sizeof counts / sizeof counts[0]; i++)
+        refused("load, count of hold times", load(net, 20, no_holds, counts[i], a), LINE_HOLDS_OUT_OF_RANGE);
+    for (size_t i = 0; i < 4; i++) {
+        holds[i] = 1000001;
+        refused("load, hold time", load(net, 20, holds, 4, a), LINE_HOLDS_OUT_OF_RANGE);
+        refused("load, hold time", load(net, 20, holds, 5, a), LINE_HOLDS_OUT_OF_RANGE);
+        holds[i] = UINT32_MAX;
+        refused("load, hold time", load(net, 20, holds, 4, a), LINE_HOLDS_OUT_OF_RANGE);
+        holds[i] = 1000000;
+        granted("load, hold time", load(net, 20, holds, 4, a));
+    }
+    refused("load, count of hold times", line_load(LINE_MOST_NODES, net, 20, no_holds, 31, area, a), LINE_HOLDS_OUT_OF_RANGE);
+    refused("load, count of hold times", line_load(LINE_MOST_NODES, net, 20, no_holds, 33, area, a), LINE_HOLDS_OUT_OF_RANGE);
+}
+
+/* A load writes n, m, 0, the links and as many hold words as there are nodes; every other word keeps its contents. */
+static void load_writes(void)
+{
+    static const uint32_t holds[LINE_MOST_NODES] = {7, 1000000, 0, 9, 11}, counts[] = {4, LINE_MOST_NODES};
+    const size_t a = LINE_AREA_WORDS;
+    for (size_t i = 0; i < sizeof counts / sizeof counts[0]; i++) {
+        const uint32_t n = counts[i], head[3] = {n, 4, 0};
+        fill(area, a, 1000001);
+        ready();
+        memcpy(before, head, sizeof head);
+        memcpy(before + LINE_FIRST_LINK, net, sizeof net);
+        memcpy(before + 3459, holds, n * sizeof *holds);
+        if (line_load(n, net, 20, holds, n, area, a) != LINE_GRANTED || memcmp(before, area, sizeof area) != 0) {
+            printf("load with %u nodes: not the words that it should write\n", (unsigned)n);
+            failures++;
+        }
+    }
+    granted("load", load(net, 20, no_holds, 4, a));
 }
 
 static void quote_refusals(void)
@@ -101,9 +153,11 @@ static void quote_refusals(void)
     refused("quote", quote(a, w, p - 1, 4, 11, 8), LINE_PATH_TOO_SHORT);
     refused("quote", quote(a, w, p, 4, 11, 8), LINE_REQUEST_OUT_OF_RANGE);
     refused("quote", quote(a, w, p, 0, 1, 8), LINE_REQUEST_OUT_OF_RANGE);
+    refused("quote", quote(a, w, p, 3, 1, 61000001), LINE_REQUEST_OUT_OF_RANGE);
     refused("quote", quote(a, w, p, 3, 11, 8), LINE_NO_PATH);
     refused("quote", quote(a, w, p, 3, 1, 5), LINE_NO_SOLUTION);
     granted("quote", quote(a, w, p, 3, 1, 8));
+    granted("quote", quote(a, w, p, 3, 1, 61000000));
 }
 
 static void admit_refusals(void)
@@ -113,12 +167,15 @@ static void admit_refusals(void)
     refused("admit", admit(a, w - 1, p - 1, 0, 4, 11, 8), LINE_WORK_TOO_SHORT);
     refused("admit", admit(a, w, p - 1, 0, 4, 11, 8), LINE_PATH_TOO_SHORT);
     refused("admit", admit(a, w, p, 0, 4, 11, 8), LINE_REQUEST_OUT_OF_RANGE);
+    refused("admit", admit(a, w, p, 7, 3, 1, 61000001), LINE_REQUEST_OUT_OF_RANGE);
     refused("admit", admit(a, w, p, 0, 3, 11, 8), LINE_CIRCUIT_NUMBER);
     refused("admit", admit(a, w, p, 65536, 3, 11, 8), LINE_CIRCUIT_NUMBER);
     refused("admit", admit(a, w, p, 7, 3, 11, 8), LINE_NO_PATH);
     refused("admit", admit(a, w, p, 7, 3, 1, 5), LINE_NO_SOLUTION);
     granted("admit", admit(a, w, p, 7, 3, 1, 8));
     refused("admit", admit(a, w, p, 7, 3, 11, 8), LINE_CIRCUIT_NUMBER);
+    granted("admit", admit(a, w, p, 8, 3, 1, 61000000));
+    granted("release", line_release(area, a, 8));
 }
 
 static void other_refusals(void)
@@ -162,7 +219,11 @@ static void class_refusals(void)
         }
         rows[i] = 1;
     }
+    rows[1] = 61000001;
+    refused("class", line_class(rows, 4, 1, answer), LINE_CLASSES_OUT_OF_RANGE);
+    rows[1] = 61000000;
     refused("class", line_class(rows, 4, 1, answer), LINE_NO_SUCH_CLASS);
+    rows[1] = 1;
     refused("class", line_class(rows, 4, UINT32_MAX, answer), LINE_NO_SUCH_CLASS);
     refused("class", line_class(rows, LINE_CLASS_WORDS, LINE_MOST_ROWS, answer), LINE_NO_SUCH_CLASS);
     rows[LINE_CLASS_WORDS - 1] = 7;
@@ -174,11 +235,10 @@ static void class_refusals(void)
     ready();
 }
 
-/* An area that claims 65 circuits is not well formed, whatever else holds. */
-static void damaged_area(void)
+/* Every call on a loaded area gives 5, and nothing changes. */
+static void not_well_formed(void)
 {
     const size_t a = LINE_AREA_WORDS, w = LINE_WORK_WORDS, p = LINE_PATH_WORDS;
-    area[2] = LINE_MOST_CIRCUITS + 1;
     ready();
     refused("quote", quote(a, w, p, 3, 1, 8), LINE_AREA_NOT_WELL_FORMED);
     refused("admit", admit(a, w, p, 7, 3, 1, 8), LINE_AREA_NOT_WELL_FORMED);
@@ -187,12 +247,37 @@ static void damaged_area(void)
     refused("free units", line_free_units(area, a, 0, answer), LINE_AREA_NOT_WELL_FORMED);
 }
 
+/* A hold time over 1,000,000 makes an area not well formed; hold words past n may be anything. An area that claims 65
+   circuits is not well formed, whatever else holds. */
+static void damaged_area(void)
+{
+    const size_t a = LINE_AREA_WORDS, w = LINE_WORK_WORDS, p = LINE_PATH_WORDS;
+    for (uint32_t i = 0; i < LINE_MOST_NODES; i++) {
+        if (i < 4) {
+            area[3459 + i] = 1000001;
+            not_well_formed();
+            area[3459 + i] = UINT32_MAX;
+            not_well_formed();
+        }
+        area[3459 + i] = i < 4 ? 1000000 : UINT32_MAX;
+        ready();
+        granted("free units", line_free_units(area, a, 0, answer));
+        granted("list", line_list(area, a, numbers, LINE_MOST_CIRCUITS, answer));
+        refused("release", line_release(area, a, 7), LINE_NOT_HELD);
+    }
+    granted("admit", admit(a, w, p, 7, 3, 1, 61000000));
+    granted("release", line_release(area, a, 7));
+    granted("quote", quote(a, w, p, 3, 1, 61000000));
+    area[2] = LINE_MOST_CIRCUITS + 1;
+    not_well_formed();
+}
+
 /* 64 circuits of one unit each over one link of capacity 64: the 65th is refused before any search. */
 static void full_area(void)
 {
     const size_t a = LINE_AREA_WORDS, w = LINE_WORK_WORDS, p = LINE_PATH_WORDS;
     const uint32_t one[5] = {0, 1, 1, 1, 64};
-    granted("load", line_load(2, one, 5, area, a));
+    granted("load", line_load(2, one, 5, no_holds, 2, area, a));
     for (uint32_t circuit = 1; circuit <= LINE_MOST_CIRCUITS; circuit++)
         granted("admit", admit(a, w, p, circuit, 1, 1, 8));
     refused("admit", admit(a, w, p, 64, 1, 1, 8), LINE_CIRCUIT_NUMBER);
@@ -228,6 +313,8 @@ int main(void)
 {
     ready();
     load_refusals();
+    hold_refusals();
+    load_writes();
     quote_refusals();
     admit_refusals();
     other_refusals();

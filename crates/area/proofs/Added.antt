@@ -1,37 +1,21 @@
 -- After the stores of an admission the station has the circuit more, and the rest of the area stands: no word before the
 -- new circuit or past it is stored to, but for the count of circuits.
 -- Assumes nothing.
-use mathlib.Core.Path.{◌≡◌, refl, ap₂, ◌∙◌}
-use mathlib.Core.List.{List, [], ◌∷◌}
+use mathlib.Core.Path.{◌≡◌, ap₂, ◌∙◌}
+use mathlib.Core.List.{List, ◌∷◌}
 use mathlib.Core.Logic.{◌≢◌}
-use Prim.Native.Nat.{ℕ, zero, suc, ◌+◌, ◌≤◌, ◌<◌}
-use native.Mathlib.Nat.{add-zero, add-suc, suc-add}
+use Prim.Native.Nat.{ℕ, suc, ◌+◌, ◌≤◌, ◌<◌}
 use native.Mathlib.Numerals.{add-one}
 use native.Mathlib.Omega.{arith}
-use lib.ListN.{length, get_or, set, length-set}
+use lib.ListN.{length, get_or, length-set}
 use lib.Seq.{sets, length-sets, get_or-set_same, get_or-set_other}
 use Rattle.network.specs.Limits.{most_links, most_path_links}
 use Rattle.area.specs.Layout.{area_words, circuit_words, most_circuits}
 use Rattle.area.specs.Station.{Circuit, words_at, place, circuit_at, circuits, station}
 use Rattle.area.specs.Moves.{words_of, added, with_circuit, Untouched}
 use Rattle.area.proofs.WordsAt.{words_at_lem}
+use Rattle.area.proofs.Sets.{sets_before, sets_in, sets_past}
 use Rattle.area.proofs.StationWords.{circuit_same, circuits_same, circuit_read, table_untouched}
-
--- ---- a run of stores
-pub sets_before : (l : List ℕ) (a : ℕ) (vs : List ℕ) (i : ℕ) → i < a → get_or (sets l a vs) i 0 ≡ get_or l i 0
-sets_before l a [] i h = refl
-sets_before l a (v ∷ vs) i h = sets_before (set l a v) (suc a) vs i (omega arith) ∙ get_or-set_other l a i v 0 (omega arith)
-
-pub sets_in : (l : List ℕ) (a : ℕ) (vs : List ℕ) (i : ℕ) → a + length vs ≤ length l → i < length vs → get_or (sets l a vs) (a + i) 0 ≡ get_or vs i 0
-sets_in l a [] i fits h = absurd (omega arith)
-sets_in l a (v ∷ vs) zero fits h =
-    rw add-zero (sets_before (set l a v) (suc a) vs a (omega arith) ∙ get_or-set_same l a v 0 (omega arith))
-sets_in l a (v ∷ vs) (suc i) fits h =
-    rw (add-suc, ← suc-add a i) (sets_in (set l a v) (suc a) vs i (rw length-set (omega arith)) (omega arith))
-
-pub sets_past : (l : List ℕ) (a : ℕ) (vs : List ℕ) (i : ℕ) → a + length vs ≤ i → get_or (sets l a vs) i 0 ≡ get_or l i 0
-sets_past l a [] i h = refl
-sets_past l a (v ∷ vs) i h = sets_past (set l a v) (suc a) vs i (omega arith) ∙ get_or-set_other l a i v 0 (omega arith)
 
 -- ---- a circuit more
 pub added_long : (w : List ℕ) (c : Circuit) → length (added w c) ≡ length w

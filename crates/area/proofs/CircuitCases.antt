@@ -4,7 +4,7 @@
 -- Assumes nothing.
 use mathlib.Core.Path.{◌≡◌, refl, sym, ap, ◌∙◌}
 use mathlib.Core.Bool.{true, false, not, ◌&&◌, and-false}
-use mathlib.Core.List.{List}
+use mathlib.Core.List.{List, []}
 use mathlib.Core.Logic.{◌⊎◌, inl, inr}
 use Prim.Native.Nat.{ℕ, zero, suc, ◌≤◌, ◌<◌}
 use native.Mathlib.Omega.{arith}
@@ -24,7 +24,7 @@ use Rattle.area.proofs.PathTest.{path_says, path_links_low}
 
 -- m links, whatever the nodes
 abbrev pub table_with : ℕ → List ℕ → Table
-table_with m words = record { nodes = 0; links = m; words = words }
+table_with m words = record { nodes = 0; links = m; words = words; hold_times = [] }
 
 -- the links of a path that fits are links of a table
 pub links_low : (m : ℕ) (words p : List ℕ) → m ≤ most_links → true ≡ path_fits m words p → (k : ℕ) → k < length p → get_or p k 0 < most_links

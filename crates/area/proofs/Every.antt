@@ -1,10 +1,13 @@
--- A test of all the numbers below n, as the code runs it by `all` over a range, is `every`.
+-- A test of all the numbers below n, as the code runs it by `all` over a range, and of all elements of a list, as it runs over
+-- a slice, is `every`.
 -- Assumes nothing.
 use Prim.Native.Nat.{ℕ, zero, suc, ◌+◌}
 use mathlib.Core.Path.{◌≡◌, refl, sym, ap, ◌∙◌}
 use mathlib.Core.Bool.{Bool, true, false, ◌&&◌}
+use mathlib.Core.List.{List, [], ◌∷◌}
 use native.Mathlib.Nat.{add-zero}
 use native.Mathlib.Omega.{arith}
+use lib.ListN.{length, get_or}
 use Rattle.std.specs.List.{list_all, range_with_len}
 use Rattle.network.specs.Loops.{every}
 
@@ -37,3 +40,9 @@ every_from f a (suc n) =
 -- a test of all
 pub all_every : (f : ℕ → Bool) (n : ℕ) → list_all f (range_with_len 0 n) ≡ every f n
 all_every f n = every_from f 0 n ∙ every_same (λ i. f (0 + i)) f n (λ i. ap f (omega arith))
+
+-- a test of all elements
+pub each_every : (f : ℕ → Bool) (l : List ℕ) → list_all f l ≡ every (λ i. f (get_or l i 0)) (length l)
+unfolding every
+each_every f [] = refl
+each_every f (a ∷ l) = ap (λ b. f a && b) (each_every f l) ∙ sym (every_front (λ i. f (get_or (a ∷ l) i 0)) (length l))

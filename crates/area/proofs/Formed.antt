@@ -2,14 +2,14 @@
 -- order, and each part's test is true just where its fact holds.
 -- Assumes nothing.
 use mathlib.Core.Path.{◌≡◌, refl, sym, ◌∙◌}
-use mathlib.Core.Bool.{true, false, not, true≢false}
+use mathlib.Core.Bool.{Bool, true, false, not, true≢false}
 use mathlib.Core.List.{List, [], ◌∷◌}
 use mathlib.Core.Logic.{◌↔◌}
 use Prim.Native.Nat.{ℕ, ◌≤◌, ◌<◌}
 use lib.Dec.{ltb, leb, eqb}
-use lib.ListN.{length}
-use borrow.Author.Tests.{leb-true, le-leb, ltb-true, lt-ltb, eqb-false, ne_eqb, not-true}
-use Rattle.network.specs.Limits.{least_nodes, least_path_links, least_units, most_capacity, most_cost, most_delay, most_links, most_nodes, most_path_links, most_units}
+use lib.ListN.{length, get_or}
+use borrow.Author.Tests.{leb-true, le-leb, ltb-true, lt-ltb, eqb-true, eq-eqb, eqb-false, ne_eqb, not-true}
+use Rattle.network.specs.Limits.{least_nodes, least_path_links, least_units, most_capacity, most_cost, most_delay, most_hold, most_links, most_nodes, most_path_links, most_units}
 use Rattle.network.specs.Lists.{All, Distinct}
 use Rattle.network.proofs.Tests.{both, fst_of, snd_of}
 use Rattle.network.proofs.Ranges.{range_says, range_test}
@@ -19,12 +19,31 @@ use Rattle.network.specs.Ranges.{in_range}
 use Rattle.area.specs.Layout.{area_words, least_number, most_circuits, most_number}
 use Rattle.area.specs.Station.{Table, Circuit, Station, tail_of, head_of, delay_of, cost_of, capacity_of, station}
 use Rattle.area.specs.Books.{usage, numbers, holds}
-use Rattle.area.specs.Formed.{LinkFits, TableFits, CircuitFits, SoundStation, WellFormed, link_fits, links_fit, table_fits, circuit_fits, held_fit, units_fit, sound, well_formed}
+use Rattle.area.specs.Formed.{LinkFits, HoldTimesFit, TableFits, CircuitFits, SoundStation, WellFormed, link_fits, links_fit, hold_times_fit, table_fits, circuit_fits, held_fit, units_fit, sound, well_formed}
 use Rattle.area.proofs.PathTest.{path_says, path_test}
+
+-- ---- the hold times
+module _ (n : ℕ) (hold_times : List ℕ) where
+  abbrev low_hold : ℕ → Bool
+  low_hold v = leb (get_or hold_times v 0) most_hold
+
+  pub hold_times_says : hold_times_fit n hold_times ≡ true → HoldTimesFit n hold_times
+  unfolding hold_times_fit
+  hold_times_says e =
+      record {
+        count = eqb-true (length hold_times) n (fst_of (eqb (length hold_times) n) _ e);
+        each = λ v low. leb-true (get_or hold_times v 0) most_hold (every_at low_hold v n low (snd_of (eqb (length hold_times) n) _ e));
+      }
+
+  pub hold_times_test : HoldTimesFit n hold_times → hold_times_fit n hold_times ≡ true
+  unfolding hold_times_fit
+  hold_times_test h =
+      both (eqb (length hold_times) n) _ (eq-eqb (length hold_times) n h.count)
+      (every_all low_hold n (λ v low. le-leb (get_or hold_times v 0) most_hold (h.each v low)))
 
 -- ---- a link, and the table
 module _ (t : Table) where
-  pub link_says : (i : ℕ) → link_fits t i ≡ true → LinkFits t i
+  pub link_says : (i : ℕ) → link_fits t.nodes t.words i ≡ true → LinkFits t i
   unfolding link_fits
   link_says i e =
       let e1 = snd_of (ltb (tail_of t i) t.nodes) _ e in
@@ -40,7 +59,7 @@ module _ (t : Table) where
         capacity = leb-true (capacity_of t i) most_capacity (snd_of (leb (cost_of t i) most_cost) _ e4);
       }
 
-  pub link_test : (i : ℕ) → LinkFits t i → link_fits t i ≡ true
+  pub link_test : (i : ℕ) → LinkFits t i → link_fits t.nodes t.words i ≡ true
   unfolding link_fits
   link_test i h =
       rw (
@@ -52,31 +71,34 @@ module _ (t : Table) where
         le-leb (capacity_of t i) most_capacity h.capacity,
       )
 
-  pub links_says : links_fit t ≡ true → (i : ℕ) → i < t.links → LinkFits t i
+  pub links_says : links_fit t.nodes t.links t.words ≡ true → (i : ℕ) → i < t.links → LinkFits t i
   unfolding links_fit
-  links_says e i low = link_says i (every_at (link_fits t) i t.links low e)
+  links_says e i low = link_says i (every_at (link_fits t.nodes t.words) i t.links low e)
 
-  pub links_test : ((i : ℕ) → i < t.links → LinkFits t i) → links_fit t ≡ true
+  pub links_test : ((i : ℕ) → i < t.links → LinkFits t i) → links_fit t.nodes t.links t.words ≡ true
   unfolding links_fit
-  links_test h = every_all (link_fits t) t.links (λ i low. link_test i (h i low))
+  links_test h = every_all (link_fits t.nodes t.words) t.links (λ i low. link_test i (h i low))
 
   pub table_says : table_fits t ≡ true → TableFits t
   unfolding table_fits
   table_says e =
       let e1 = snd_of (in_range least_nodes most_nodes t.nodes) _ e in
+      let e2 = snd_of (leb t.links most_links) _ e1 in
       let nodes = range_says least_nodes most_nodes t.nodes (fst_of (in_range least_nodes most_nodes t.nodes) _ e) in
       record {
         nodes_least = nodes.0;
         nodes_most = nodes.1;
         links_most = leb-true t.links most_links (fst_of (leb t.links most_links) _ e1);
-        each = links_says (snd_of (leb t.links most_links) _ e1);
+        each = links_says (fst_of (links_fit t.nodes t.links t.words) _ e2);
+        hold_times = hold_times_says t.nodes t.hold_times (snd_of (links_fit t.nodes t.links t.words) _ e2);
       }
 
   pub table_test : TableFits t → table_fits t ≡ true
   unfolding table_fits
   table_test h =
       both (in_range least_nodes most_nodes t.nodes) _ (range_test least_nodes most_nodes t.nodes h.nodes_least h.nodes_most)
-      (both (leb t.links most_links) _ (le-leb t.links most_links h.links_most) (links_test h.each))
+      (both (leb t.links most_links) _ (le-leb t.links most_links h.links_most)
+      (both (links_fit t.nodes t.links t.words) _ (links_test h.each) (hold_times_test t.nodes t.hold_times h.hold_times)))
 
   -- ---- a circuit, and the circuits that are held
   pub circuit_says : (c : Circuit) → circuit_fits t.links t.words c ≡ true → CircuitFits t c

@@ -3,6 +3,7 @@ mod Agreement
 mod Every
 pub mod Arrays
 pub mod WordsAt
+pub mod Sets
 pub mod Found
 mod PathTest
 pub mod Formed
@@ -10,6 +11,7 @@ mod StationWords
 pub mod Added
 pub mod Removed
 pub mod FreeUnits
+pub mod Holds
 pub mod Keeps
 pub mod Order
 pub mod Stores
@@ -18,6 +20,7 @@ pub mod Checks
 pub mod ReadCases
 pub mod Depends
 pub mod TableCases
+pub mod Columns
 pub mod Onward
 pub mod CircuitCases
 pub mod Taken

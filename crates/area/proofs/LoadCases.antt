@@ -5,32 +5,45 @@ use mathlib.Core.Path.{◌≡◌, refl, ap}
 use mathlib.Core.Bool.{true, false}
 use mathlib.Core.List.{List, [], ◌∷◌}
 use mathlib.Core.Logic.{◌⊎◌, inl, inr}
-use Prim.Native.Nat.{ℕ, ◌+◌, ◌/◌, ◌%◌, ◌≤◌, ◌<◌}
+use Prim.Native.Nat.{ℕ, ◌+◌, ◌%◌, ◌≤◌, ◌<◌}
 use native.Mathlib.Omega.{arith}
 use lib.ListN.{length, set}
 use lib.Seq.{sets, sets-eq}
 use borrow.Author.Tests.{le-leb, lt-leb, eq-eqb, ne_eqb}
 use Rattle.network.specs.Limits.{least_nodes, link_words, most_nodes}
 use Rattle.network.specs.Ranges.{in_range}
-use Rattle.area.specs.Layout.{area_words, table_words}
+use Rattle.area.specs.Layout.{area_words, first_hold, table_words}
 use Rattle.area.specs.Refusals.{refuses, grants}
-use Rattle.area.specs.Formed.{links_fit}
-use Rattle.area.specs.Load.{table_of, load_answer, loaded, area_loaded}
+use Rattle.area.specs.Formed.{links_fit, hold_times_fit}
+use Rattle.network.proofs.Ranges.{range_says}
+use Rattle.area.proofs.Formed.{hold_times_says}
+use Rattle.area.specs.Load.{LoadInput, link_count, load_answer, loaded, area_loaded}
 
--- n, m and 0 over the first three words, and the links behind them
-pub stored_loaded : (w : List ℕ) (n : ℕ) (links : List ℕ) → 3 + length links ≤ length w
-    → set (set (set (sets w 3 links) 0 n) 1 (length links / link_words)) 2 0 ≡ loaded w n links
+-- n, m and 0 over the first three words, the links behind them, and the hold times at their place
+pub stored_loaded : (w : List ℕ) (input : LoadInput) → 3 + length input.links ≤ length w
+    → sets (set (set (set (sets w 3 input.links) 0 input.nodes) 1 (link_count input)) 2 0) first_hold input.hold_times ≡ loaded w input
 unfolding loaded
-stored_loaded [] n links fits = absurd (omega arith)
-stored_loaded (a ∷ []) n links fits = absurd (omega arith)
-stored_loaded (a ∷ b ∷ []) n links fits = absurd (omega arith)
-stored_loaded (a ∷ b ∷ d ∷ w) n links fits =
-    ap (λ (l : List ℕ). set (set (set l 0 n) 1 (length links / link_words)) 2 0) (sets-eq links (a ∷ b ∷ d ∷ w) 3 fits)
+stored_loaded [] input fits = absurd (omega arith)
+stored_loaded (a ∷ []) input fits = absurd (omega arith)
+stored_loaded (a ∷ b ∷ []) input fits = absurd (omega arith)
+stored_loaded (a ∷ b ∷ d ∷ w) input fits =
+    ap (λ (l : List ℕ). sets (set (set (set l 0 input.nodes) 1 (link_count input)) 2 0) first_hold input.hold_times)
+    (sets-eq input.links (a ∷ b ∷ d ∷ w) 3 fits)
 
-module _ (w : List ℕ) (n : ℕ) (links : List ℕ) where
+-- hold times that fit have room in an area
+pub holds_room : (w : List ℕ) (n : ℕ) (hold_times : List ℕ) → area_words ≤ length w → in_range least_nodes most_nodes n ≡ true
+    → hold_times_fit n hold_times ≡ true
+    → first_hold + length hold_times ≤ length w
+holds_room w n hold_times long nodes fit =
+    omega (arith, long, (range_says least_nodes most_nodes n nodes).1, (hold_times_says n hold_times fit).count)
+
+module _ (w : List ℕ) (input : LoadInput) where
+  abbrev links : List ℕ
+  links = input.links
+
   -- the answer is this refusal, and the area stays
   abbrev pub RefusedBy : ℕ → Type 0
-  RefusedBy k = (refuses k ≡ load_answer w n links) × (w ≡ area_loaded w n links)
+  RefusedBy k = (refuses k ≡ load_answer w input) × (w ≡ area_loaded w input)
 
   -- 1: the area is too short
   pub area_short : length w < area_words → RefusedBy 1
@@ -39,11 +52,11 @@ module _ (w : List ℕ) (n : ℕ) (links : List ℕ) where
 
   module _ (long : area_words ≤ length w) where
     -- 2: n is out of range
-    pub nodes_out : in_range least_nodes most_nodes n ≡ false → RefusedBy 2
+    pub nodes_out : in_range least_nodes most_nodes input.nodes ≡ false → RefusedBy 2
     unfolding load_answer area_loaded
     nodes_out h = rw (le-leb area_words (length w) long, h) (refl, refl)
 
-    module _ (nodes : in_range least_nodes most_nodes n ≡ true) where
+    module _ (nodes : in_range least_nodes most_nodes input.nodes ≡ true) where
       -- 3: the link words are not five a link
       pub words_left_over : (length links % link_words ≡ 0 → ⊥) → RefusedBy 3
       unfolding load_answer area_loaded
@@ -62,11 +75,20 @@ module _ (w : List ℕ) (n : ℕ) (links : List ℕ) where
 
       module _ (whole : length links % link_words ≡ 0) (few : length links ≤ table_words) where
         -- 4: a link does not fit
-        pub link_out : links_fit (table_of n links) ≡ false → RefusedBy 4
+        pub link_out : links_fit input.nodes (link_count input) links ≡ false → RefusedBy 4
         unfolding load_answer area_loaded
         link_out h = rw (le-leb area_words (length w) long, nodes, eq-eqb (length links % link_words) 0 whole, le-leb (length links) table_words few, h) (refl, refl)
 
-        -- every check passes
-        pub all_pass : links_fit (table_of n links) ≡ true → (grants tt ≡ load_answer w n links) × (loaded w n links ≡ area_loaded w n links)
-        unfolding load_answer area_loaded
-        all_pass h = rw (le-leb area_words (length w) long, nodes, eq-eqb (length links % link_words) 0 whole, le-leb (length links) table_words few, h) (refl, refl)
+        module _ (fit : links_fit input.nodes (link_count input) links ≡ true) where
+          -- 22: the hold times do not fit
+          pub hold_out : hold_times_fit input.nodes input.hold_times ≡ false → RefusedBy 22
+          unfolding load_answer area_loaded
+          hold_out h =
+              rw (le-leb area_words (length w) long, nodes, eq-eqb (length links % link_words) 0 whole, le-leb (length links) table_words few, fit, h) (refl, refl)
+
+          -- every check passes
+          pub all_pass : hold_times_fit input.nodes input.hold_times ≡ true
+              → (grants tt ≡ load_answer w input) × (loaded w input ≡ area_loaded w input)
+          unfolding load_answer area_loaded
+          all_pass h =
+              rw (le-leb area_words (length w) long, nodes, eq-eqb (length links % link_words) 0 whole, le-leb (length links) table_words few, fit, h) (refl, refl)

@@ -9,14 +9,14 @@ use native.Mathlib.Omega.{arith}
 use lib.ListN.{length, get_or, drop}
 use borrow.Author.Tests.{le-leb, lt-leb, le-ltb, lt-ltb}
 use Rattle.area.specs.Layout.{area_words, most_circuits}
-use Rattle.area.specs.Station.{links_in, held_in, station, table_in}
+use Rattle.area.specs.Station.{nodes_in, links_in, held_in, station, table_in, hold_of}
 use Rattle.area.specs.Held.{number_at, numbers_from, ListsHeld}
-use Rattle.area.specs.Formed.{WellFormed, well_formed}
+use Rattle.area.specs.Formed.{LinkFits, WellFormed, well_formed}
 use Rattle.area.specs.Refusals.{Reply, refuses, grants, Answered}
 use Rattle.area.specs.Checks.{checked}
 use Rattle.area.specs.Reads.{list_checks, list_answer, listed, count_of, buffer_after, list_rules, ListMeans, free_answer}
 use Rattle.area.specs.FreeIn.{free_in}
-use Rattle.network.specs.Limits.{most_links}
+use Rattle.network.specs.Limits.{most_hold, most_links, most_nodes}
 use Rattle.network.proofs.Tests.{unfailing}
 use Rattle.network.proofs.Stored.{from_length}
 use Rattle.area.proofs.Checks.{checked_made, Tested, tests_not, tests_short, checked_answers}
@@ -36,6 +36,19 @@ held_few w h = omega (arith, held_length w (get_or w 2 0), h.sound.few)
 module _ (w : List ℕ) (formed : well_formed w ≡ true) where
   pub formed_long : area_words ≤ length w
   formed_long = (formed_says w formed).long
+
+  -- of the nodes, each link's ends, and each node's hold time
+  pub formed_nodes : nodes_in w ≤ most_nodes
+  unfolding station table_in
+  formed_nodes = (formed_says w formed).sound.table.nodes_most
+
+  pub formed_ends : (i : ℕ) → i < links_in w → LinkFits (table_in w) i
+  unfolding station table_in
+  formed_ends i low = (formed_says w formed).sound.table.each i low
+
+  pub formed_holds : (v : ℕ) → v < nodes_in w → hold_of (table_in w) v ≤ most_hold
+  unfolding station table_in
+  formed_holds v low = (formed_says w formed).sound.table.hold_times.each v low
 
   pub formed_links : get_or w 1 0 ≤ most_links
   formed_links = links_few w (formed_says w formed)

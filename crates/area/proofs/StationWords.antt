@@ -8,7 +8,7 @@ use native.Mathlib.Omega.{arith}
 use lib.ListN.{length, get_or}
 use lib.Seq.{get_or-append-add}
 use Rattle.network.specs.Limits.{link_words, most_links}
-use Rattle.area.specs.Layout.{circuit_words, first_link}
+use Rattle.area.specs.Layout.{circuit_words, first_hold, first_link}
 use Rattle.area.specs.Station.{Circuit, words_at, place, circuit_of, circuit_at, circuits, table_in}
 use Rattle.area.specs.Moves.{words_of, Untouched}
 use Rattle.area.proofs.WordsAt.{words_same, words_list}
@@ -35,7 +35,10 @@ circuit_read v c h = λ t. record { number = h 0 (omega arith) t; units = h 1 (o
 -- a store that leaves the table's words leaves the table
 pub table_untouched : (w w' : List ℕ) → Untouched w w' → get_or w 1 0 ≤ most_links → table_in w' ≡ table_in w
 unfolding table_in
-table_untouched w w' same few = λ t. record { nodes = same.nodes t; links = same.links t; words = words t }
+table_untouched w w' same few = λ t. record { nodes = same.nodes t; links = same.links t; words = words t; hold_times = held t }
   where
     words : words_at w' first_link (link_words * get_or w' 1 0) ≡ words_at w first_link (link_words * get_or w 1 0)
     words = rw same.links (words_same w w' 3 3 (link_words * get_or w 1 0) λ i low. same.table (3 + i) (omega arith) (omega arith))
+
+    held : words_at w' first_hold (get_or w' 0 0) ≡ words_at w first_hold (get_or w 0 0)
+    held = rw same.nodes (words_same w w' first_hold first_hold (get_or w 0 0) λ i low. same.past (first_hold + i) (omega arith))

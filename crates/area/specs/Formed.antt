@@ -1,8 +1,8 @@
 -- Document 01's well-formed area: the statement with named parts, and the test that the code runs. proofs/Formed.antt
 -- shows that the two are equal.
 -- Assumes nothing.
-use Rattle.std.specs.Prelude.{ℕ, ◌≤◌, ◌<◌, ◌≡◌, Bool, true, false, not, ◌&&◌, List, [], ◌∷◌, ltb, leb, eqb, length}
-use Rattle.network.specs.Limits.{least_nodes, least_path_links, least_units, most_capacity, most_cost, most_delay, most_links, most_nodes, most_path_links, most_units}
+use Rattle.std.specs.Prelude.{ℕ, ◌≤◌, ◌<◌, ◌≡◌, Bool, true, false, not, ◌&&◌, List, [], ◌∷◌, ltb, leb, eqb, length, get_or}
+use Rattle.network.specs.Limits.{least_nodes, least_path_links, least_units, most_capacity, most_cost, most_delay, most_hold, most_links, most_nodes, most_path_links, most_units}
 use Rattle.network.specs.Ranges.{in_range}
 use Rattle.network.specs.Lists.{All, Distinct}
 use Rattle.network.specs.Loops.{every}
@@ -22,11 +22,17 @@ pub record LinkFits (t : Table) (i : ℕ) : Type 0 where
   pub cost : cost_of t i ≤ most_cost
   pub capacity : capacity_of t i ≤ most_capacity
 
+-- n hold times, one for each node
+pub record HoldTimesFit (n : ℕ) (hold_times : List ℕ) : Type 0 where
+  pub count : length hold_times ≡ n
+  pub each : (v : ℕ) → v < n → get_or hold_times v 0 ≤ most_hold
+
 pub record TableFits (t : Table) : Type 0 where
   pub nodes_least : least_nodes ≤ t.nodes
   pub nodes_most : t.nodes ≤ most_nodes
   pub links_most : t.links ≤ most_links
   pub each : (i : ℕ) → i < t.links → LinkFits t i
+  pub hold_times : HoldTimesFit t.nodes t.hold_times
 
 -- p is a path of the table, between some two nodes
 abbrev pub PathOf : Table → List ℕ → Type 0
@@ -55,20 +61,26 @@ pub record WellFormed (w : List ℕ) : Type 0 where
   pub sound : SoundStation (station w)
 
 -- ---- the test
-unfoldable pub link_fits : Table → ℕ → Bool
-link_fits t i =
-    ltb (tail_of t i) t.nodes && (ltb (head_of t i) t.nodes && (not (eqb (tail_of t i) (head_of t i))
-    && (leb (delay_of t i) most_delay && (leb (cost_of t i) most_cost && leb (capacity_of t i) most_capacity))))
+-- The tests of links, of hold times and of circuits ask for no whole table: for n nodes, and m links with these words.
+unfoldable pub link_fits : ℕ → List ℕ → ℕ → Bool
+link_fits n words i =
+    ltb (field words i 0) n && (ltb (field words i 1) n && (not (eqb (field words i 0) (field words i 1))
+    && (leb (field words i 2) most_delay && (leb (field words i 3) most_cost && leb (field words i 4) most_capacity))))
 
-unfoldable pub links_fit : Table → Bool
+unfoldable pub links_fit : ℕ → ℕ → List ℕ → Bool
 unfolding link_fits every
-links_fit t = every (link_fits t) t.links
+links_fit n m words = every (link_fits n words) m
+
+-- one hold time for each of n nodes
+unfoldable pub hold_times_fit : ℕ → List ℕ → Bool
+unfolding every
+hold_times_fit n hold_times = eqb (length hold_times) n && every (λ v. leb (get_or hold_times v 0) most_hold) n
 
 unfoldable pub table_fits : Table → Bool
-unfolding links_fit
-table_fits t = in_range least_nodes most_nodes t.nodes && (leb t.links most_links && links_fit t)
+unfolding links_fit hold_times_fit
+table_fits t =
+    in_range least_nodes most_nodes t.nodes && (leb t.links most_links && (links_fit t.nodes t.links t.words && hold_times_fit t.nodes t.hold_times))
 
--- The tests of circuits ask for the links alone: m of them, with these words.
 -- Link i goes on from node v, and to no node of the set.
 unfoldable pub goes_on : ℕ → List ℕ → ℕ → ℕ → ℕ → Bool
 unfolding member

@@ -8,7 +8,7 @@ use Rattle.area.specs.declared.Layout.{Layout}
 
 -- the words of an area, at least
 abbrev pub area_words : ℕ
-area_words = 3459
+area_words = 3491
 
 -- where the links begin, and the words of a full table
 abbrev pub first_link : ℕ
@@ -27,6 +27,10 @@ circuit_words = 34
 abbrev pub most_circuits : ℕ
 most_circuits = 64
 
+-- where the hold times begin, one word for each node that an area may have
+abbrev pub first_hold : ℕ
+first_hold = 3459
+
 -- a circuit's number
 abbrev pub least_number : ℕ
 least_number = 1
@@ -44,6 +48,7 @@ figures =
       first_circuit = first_circuit;
       circuit_words = circuit_words;
       most_circuits = most_circuits;
+      first_hold = first_hold;
       least_number = least_number;
       most_number = most_number;
     }

@@ -54,6 +54,7 @@ number refusal.FileLength = 18
 number refusal.TableShort = 19
 number refusal.ClassWords = 20
 number refusal.ClassRange = 21
+number refusal.HoldRange = 22
 
 -- the refusal for what a search did not find
 abbrev pub refusal_of : NoRoute → Refusal

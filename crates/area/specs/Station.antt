@@ -4,13 +4,14 @@
 use Rattle.std.specs.Prelude.{ℕ, zero, suc, ◌+◌, ◌*◌, List, [], ◌∷◌, get_or}
 use Rattle.network.specs.Limits.{link_words}
 use Rattle.network.specs.Words.{field}
-use Rattle.area.specs.Layout.{circuit_words, first_circuit, first_link}
+use Rattle.area.specs.Layout.{circuit_words, first_circuit, first_hold, first_link}
 
--- what loading fixes: the nodes, how many links, and the links' words
+-- what loading fixes: the nodes, how many links, the links' words and each node's hold time
 pub record Table : Type 0 where
   pub nodes : ℕ
   pub links : ℕ
   pub words : List ℕ
+  pub hold_times : List ℕ
 
 -- document 01's circuit: its number, its units, and the links of its path
 pub record Circuit : Type 0 where
@@ -38,6 +39,10 @@ cost_of t i = field t.words i 3
 abbrev pub capacity_of : Table → ℕ → ℕ
 capacity_of t i = field t.words i 4
 
+-- how long a node holds each message before it sends it on
+abbrev pub hold_of : Table → ℕ → ℕ
+hold_of t v = get_or t.hold_times v 0
+
 -- n words from place a on; a word past the end reads 0
 abbrev pub words_at : List ℕ → ℕ → ℕ → List ℕ
 words_at w a zero = []
@@ -59,7 +64,7 @@ abbrev pub circuits : List ℕ → ℕ → List Circuit
 circuits w zero = []
 circuits w (suc j) = circuit_at w j ∷ circuits w j
 
--- word 0 is n, word 1 is m, word 2 is h; links begin at word 3
+-- word 0 is n, word 1 is m, word 2 is h; links begin at word 3, and behind the circuits stand the hold times
 abbrev pub nodes_in : List ℕ → ℕ
 nodes_in w = get_or w 0 0
 
@@ -70,7 +75,13 @@ abbrev pub held_in : List ℕ → ℕ
 held_in w = get_or w 2 0
 
 unfoldable pub table_in : List ℕ → Table
-table_in w = record { nodes = nodes_in w; links = links_in w; words = words_at w first_link (link_words * links_in w) }
+table_in w =
+    record {
+      nodes = nodes_in w;
+      links = links_in w;
+      words = words_at w first_link (link_words * links_in w);
+      hold_times = words_at w first_hold (nodes_in w);
+    }
 
 unfoldable pub station : List ℕ → Station
 station w = record { table = table_in w; held = circuits w (held_in w) }

@@ -16,6 +16,7 @@ pub struct Layout {
     pub first_circuit: usize,
     pub circuit_words: usize,
     pub most_circuits: usize,
+    pub first_hold: usize,
     pub least_number: u32,
     pub most_number: u32,
 }

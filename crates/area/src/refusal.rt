@@ -36,6 +36,8 @@ pub enum Refusal {
     // Class table: the word count is wrong, a number is out of a request's ranges.
     ClassWords = 20,
     ClassRange = 21,
+    // Load, after 4: the hold times are not one for each node, or one is out of range.
+    HoldRange = 22,
 }
 
 impl From<Refusal> for u32 {

@@ -7,6 +7,7 @@ ghost use Rattle.rules.specs.Meaning.{books_in};
 ghost use Rattle.rules.specs.SearchableArea.{SearchableArea};
 
 use area::Refusal;
+use network::limits::MOST_LINKS;
 use network::{Grant, Request};
 use route::Network;
 use station::Station;
@@ -22,11 +23,18 @@ pub fn find_path(
     ensures answer { numbered result ≡ answer_of (searched (books_in station.now.area.now) r) }
     ensures path { path.new ≡ path_after (searched (books_in station.now.area.now) r) path.old }
 {
-    let usable = station.usable(r.terms.units);
+    let mut usable = [false; MOST_LINKS];
+    station.put_usable(r.terms.units, &mut usable);
+    let mut delays = [0; MOST_LINKS];
+    station.put_delays(r.target as usize, &mut delays);
+    let mut costs = [0; MOST_LINKS];
+    station.put_costs(&mut costs);
     let network = Network {
         nodes: station.nodes(),
         links: station.links(),
         usable: &usable,
+        delays: &delays,
+        costs: &costs,
     };
     let grant = route::search(&network, work, path, r)?;
     Ok(grant)

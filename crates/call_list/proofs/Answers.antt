@@ -26,34 +26,34 @@ use Rattle.rules.specs.Calls.{quote, admission, booked, release, cleared}
 use Rattle.ledger.specs.History.{answers, path_given, bookings, remaining}
 use Rattle.ledger.proofs.Striking.{none_struck, all_remain}
 use Rattle.ledger.proofs.Demands.{third_demand}
-use Rattle.cases.specs.Document01.{links_a, blank}
+use Rattle.cases.specs.Document01.{links_a, unheld, blank}
 use Rattle.call_list.specs.Calls.{rows, calls}
 use Rattle.call_list.specs.Answers.{expected, held}
 use Rattle.call_list.proofs.Runs.{load_accepts, struck_calls, end_of, runs_agree}
 
 -- ---- from an area of zeros
-computed : (answers (area_loaded blank 4 links_a) (calls false) ≡ expected) × (bookings (end_of false blank) ≡ held)
+computed : (answers (area_loaded blank (unheld links_a)) (calls false) ≡ expected) × (bookings (end_of false blank) ≡ held)
 unfolding calls rows path_given area_loaded quote admission booked release cleared table_in circuit_of outcome search tried solve solve_in answer_in path_in ebf rounds round column offered relaxed improved initialised filled cell cells traced step_back place_back noted follow distance layer spread problem_one problem_two scaled iter first
 computed = (refl, refl)
 
-blank_accepted : load_answer blank 4 links_a ≡ grants tt
+blank_accepted : load_answer blank (unheld links_a) ≡ grants tt
 blank_accepted = load_accepts blank (omega (arith, length-replicate {A = ℕ} area_words 0))
 
 -- ---- from any area that is long enough
 module _ (w : List ℕ) (long : area_words ≤ length w) where
-  same : (answers (area_loaded w 4 links_a) (calls false) ≡ remaining (none_struck (calls false)) (answers (area_loaded blank 4 links_a) (calls false)))
+  same : (answers (area_loaded w (unheld links_a)) (calls false) ≡ remaining (none_struck (calls false)) (answers (area_loaded blank (unheld links_a)) (calls false)))
       × Same (bookings (end_of false w)) (bookings (end_of false blank))
-  same = (third_demand 4 links_a blank blank_accepted (calls false)).struck w (load_accepts w long) (calls false) (none_struck (calls false))
+  same = (third_demand (unheld links_a) blank blank_accepted (calls false)).struck w (load_accepts w long) (calls false) (none_struck (calls false))
 
   -- the first run
-  pub answers_expected : answers (area_loaded w 4 links_a) (calls false) ≡ expected
-  answers_expected = same.0 ∙ all_remain (area_loaded blank 4 links_a) (calls false) ∙ computed.0
+  pub answers_expected : answers (area_loaded w (unheld links_a)) (calls false) ≡ expected
+  answers_expected = same.0 ∙ all_remain (area_loaded blank (unheld links_a)) (calls false) ∙ computed.0
 
   pub bookings_expected : Same (bookings (end_of false w)) held
   bookings_expected = subst (Same (bookings (end_of false w))) computed.1 same.1
 
   -- the second run: of these answers those to the calls that remain, and the same bookings
-  pub remaining_expected : answers (area_loaded w 4 links_a) (calls true) ≡ remaining (struck_calls 0 25) expected
+  pub remaining_expected : answers (area_loaded w (unheld links_a)) (calls true) ≡ remaining (struck_calls 0 25) expected
   remaining_expected = (runs_agree w w long long).0 ∙ ap (remaining (struck_calls 0 25)) answers_expected
 
   pub same_expected : Same (bookings (end_of true w)) held

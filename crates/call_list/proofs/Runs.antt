@@ -11,13 +11,14 @@ use Rattle.network.specs.Limits.{path_words, work_words}
 use Rattle.network.proofs.Tests.{by_bool}
 use Rattle.area.specs.Refusals.{grants}
 use Rattle.area.specs.Layout.{area_words}
-use Rattle.area.specs.Formed.{links_fit}
+use Rattle.network.specs.Loops.{every}
+use Rattle.area.specs.Formed.{links_fit, hold_times_fit}
 use Rattle.area.specs.Order.{Same}
 use Rattle.area.specs.Load.{load_answer, area_loaded}
 use Rattle.area.proofs.LoadCases.{all_pass}
 use Rattle.ledger.specs.History.{Lending, measured, answers, area_at_end, bookings, Struck, end, strike, keep, remaining}
 use Rattle.ledger.proofs.Demands.{third_demand}
-use Rattle.cases.specs.Document01.{links_a}
+use Rattle.cases.specs.Document01.{links_a, unheld}
 use Rattle.cases.specs.declared.Asked.{Asked}
 use Rattle.cases.specs.declared.Asked.TheVariants.{Quote, Admission}
 use Rattle.call_list.specs.declared.Lent.{Lent}
@@ -71,31 +72,31 @@ struck_calls k zero = end
 struck_calls k (suc n) = struck_call k (row_at k) _ _ (struck_calls (suc k) n)
 
 -- ---- the load
-pub load_accepts : (w : List ℕ) → area_words ≤ length w → load_answer w 4 links_a ≡ grants tt
-unfolding links_fit
-load_accepts w long = sym (all_pass w 4 links_a long refl refl (omega arith) refl).0
+pub load_accepts : (w : List ℕ) → area_words ≤ length w → load_answer w (unheld links_a) ≡ grants tt
+unfolding links_fit hold_times_fit every
+load_accepts w long = sym (all_pass w (unheld links_a) long refl refl (omega arith) refl refl).0
 
 -- ---- the two runs
 abbrev pub end_of : Bool → List ℕ → List ℕ
-end_of struck w = area_at_end (area_loaded w 4 links_a) (calls struck)
+end_of struck w = area_at_end (area_loaded w (unheld links_a)) (calls struck)
 
 module _ (w v : List ℕ) where
   -- the answers of the second run are the remaining ones of the first, and the bookings at the end are the same
   abbrev pub Agree : Type 0
   Agree =
-      (answers (area_loaded v 4 links_a) (calls true) ≡ remaining (struck_calls 0 25) (answers (area_loaded w 4 links_a) (calls false)))
+      (answers (area_loaded v (unheld links_a)) (calls true) ≡ remaining (struck_calls 0 25) (answers (area_loaded w (unheld links_a)) (calls false)))
       × Same (bookings (end_of true v)) (bookings (end_of false w))
 
-  pub accepted_agree : load_answer w 4 links_a ≡ grants tt → load_answer v 4 links_a ≡ grants tt → Agree
+  pub accepted_agree : load_answer w (unheld links_a) ≡ grants tt → load_answer v (unheld links_a) ≡ grants tt → Agree
   unfolding calls
   accepted_agree accepted accepted' =
-      (third_demand 4 links_a w accepted (calls false)).struck v accepted' (calls true) (struck_calls 0 25)
+      (third_demand (unheld links_a) w accepted (calls false)).struck v accepted' (calls true) (struck_calls 0 25)
 
   -- on any two areas that are long enough
   pub runs_agree : area_words ≤ length w → area_words ≤ length v → Agree
   runs_agree long long' = accepted_agree (load_accepts w long) (load_accepts v long')
 
   -- of the areas w' and v' that the program leaves
-  pub same_bookings : (w' v' : List ℕ) → load_answer w 4 links_a ≡ grants tt → load_answer v 4 links_a ≡ grants tt → w' ≡ end_of false w → v' ≡ end_of true v
+  pub same_bookings : (w' v' : List ℕ) → load_answer w (unheld links_a) ≡ grants tt → load_answer v (unheld links_a) ≡ grants tt → w' ≡ end_of false w → v' ≡ end_of true v
       → Same (bookings v') (bookings w')
   same_bookings w' v' accepted accepted' e f = rw (e, f) (accepted_agree accepted accepted').1

@@ -2,7 +2,7 @@
 -- area held before. Words that the station is not read from may then differ from those of the definition; a call on such
 -- an area replies as on the definition's.
 -- Assumes nothing.
-use Prim.Native.Nat.{ℕ, ◌%◌, ◌≤◌}
+use Prim.Native.Nat.{ℕ, ◌/◌, ◌%◌, ◌≤◌}
 use mathlib.Core.Path.{◌≡◌, refl, sym, ap, ◌∙◌}
 use mathlib.Core.Bool.{true}
 use mathlib.Core.List.{List, []}
@@ -15,9 +15,10 @@ use Rattle.network.specs.declared.Request.{Request}
 use Rattle.area.specs.Refusals.{grants}
 use Rattle.area.specs.Layout.{area_words, table_words}
 use Rattle.area.specs.Station.{Station, station, table_in}
-use Rattle.area.specs.Formed.{WellFormed, well_formed, links_fit}
+use Rattle.network.specs.Loops.{every}
+use Rattle.area.specs.Formed.{WellFormed, well_formed, links_fit, hold_times_fit}
 use Rattle.area.specs.Moves.{with_circuit}
-use Rattle.area.specs.Load.{table_of, fresh, load_answer, area_loaded}
+use Rattle.area.specs.Load.{fresh, load_answer, area_loaded}
 use Rattle.area.proofs.LoadCases.{all_pass}
 use Rattle.area.proofs.Loads.{accepted_station, accepted_formed}
 use Rattle.rules.specs.Replies.{PathReply}
@@ -29,7 +30,7 @@ use Rattle.cases.specs.declared.Ground.{Ground}
 use Rattle.cases.specs.declared.Ground.TheVariants.{OnA, AfterM8, OnNone, OnB}
 use Rattle.cases.specs.declared.Asked.{Asked}
 use Rattle.cases.specs.declared.Asked.TheVariants.{Quote, Admission}
-use Rattle.cases.specs.Document01.{links_a, links_b, net_a, m8, m8_circuit, three, by_three, area_in, case_at}
+use Rattle.cases.specs.Document01.{links_a, links_b, unheld, net_a, m8, m8_circuit, three, by_three, area_in, case_at}
 use Rattle.cases.specs.Replied.{replied, left_by}
 use Rattle.cases.proofs.Rows.{replied_at}
 
@@ -62,23 +63,24 @@ like_replied w k like (Admission c r) = like_admission w k like c r
 
 -- ---- by a load
 module _ (w : List ℕ) (long : area_words ≤ length w) where
-  accepts : (links : List ℕ) → length links % link_words ≡ 0 → length links ≤ table_words → links_fit (table_of 4 links) ≡ true
-      → load_answer w 4 links ≡ grants tt
-  accepts links whole few fit = sym (all_pass w 4 links long refl whole few fit).0
+  accepts : (links : List ℕ) → length links % link_words ≡ 0 → length links ≤ table_words → links_fit 4 (length links / link_words) links ≡ true
+      → load_answer w (unheld links) ≡ grants tt
+  unfolding hold_times_fit every
+  accepts links whole few fit = sym (all_pass w (unheld links) long refl whole few fit refl).0
 
-  like_loaded : (k : Ground) (links : List ℕ) → load_answer w 4 links ≡ grants tt → station (area_in k) ≡ fresh 4 links
-      → Like (area_loaded w 4 links) k
-  like_loaded k links e is = (accepted_formed w 4 links e, accepted_station w 4 links e ∙ sym is)
+  like_loaded : (k : Ground) (links : List ℕ) → load_answer w (unheld links) ≡ grants tt → station (area_in k) ≡ fresh (unheld links)
+      → Like (area_loaded w (unheld links)) k
+  like_loaded k links e is = (accepted_formed w (unheld links) e, accepted_station w (unheld links) e ∙ sym is)
 
-  pub loaded_a : Like (area_loaded w 4 links_a) OnA
+  pub loaded_a : Like (area_loaded w (unheld links_a)) OnA
   unfolding links_fit area_in station table_in
   loaded_a = like_loaded OnA links_a (accepts links_a refl (omega arith) refl) refl
 
-  pub loaded_none : Like (area_loaded w 4 []) OnNone
+  pub loaded_none : Like (area_loaded w (unheld [])) OnNone
   unfolding links_fit area_in station table_in
   loaded_none = like_loaded OnNone [] (accepts [] refl (omega arith) refl) refl
 
-  pub loaded_b : Like (area_loaded w 4 links_b) OnB
+  pub loaded_b : Like (area_loaded w (unheld links_b)) OnB
   unfolding links_fit area_in station table_in
   loaded_b = like_loaded OnB links_b (accepts links_b refl (omega arith) refl) refl
 

@@ -3,4 +3,5 @@ pub mod Rows
 pub mod Numbers
 pub mod Areas
 pub mod FreeLines
+pub mod HoldTimes
 pub mod ClassCases

@@ -1,8 +1,8 @@
--- Document 01's worked cases: the replies of all of them are computed at once, and a computed reply is what the call
--- means, by proofs/Meaning.antt of `rules`. Beside them stand the figures of M2, M3 and M11.
+-- Document 01's worked cases: their nets have no hold times, so by proofs/Delays.antt of `rules` they are replied to as by the
+-- links' own delays; those replies are computed at once, and a reply is what the call means, by proofs/Meaning.antt there. Beside them stand the figures of M2, M3 and M11.
 -- Assumes nothing.
 use Prim.Native.Nat.{ℕ, zero, suc, ◌≤◌, ◌<◌}
-use mathlib.Core.Path.{◌≡◌, refl, subst}
+use mathlib.Core.Path.{◌≡◌, refl, ap, ◌∙◌, subst}
 use mathlib.Core.Bool.{true}
 use mathlib.Core.List.{List, [], ◌∷◌, map, head-eq_of_cons-eq, tail-eq_of_cons-eq}
 use native.Mathlib.Omega.{arith}
@@ -23,22 +23,51 @@ use Rattle.search.specs.Distance.{spread, layer, distance}
 use Rattle.search.specs.Heuristic.{tried, search}
 use Rattle.search.specs.Result.{outcome}
 use Rattle.area.specs.Station.{table_in, circuit_of, station}
-use Rattle.area.specs.Books.{books, net}
+use Rattle.area.specs.Books.{books, net, net_unheld}
+use Rattle.area.specs.Formed.{well_formed}
+use Rattle.rules.specs.Requests.{request_fits}
 use Rattle.area.specs.Load.{load_answer}
-use Rattle.rules.specs.Replies.{PathReply}
-use Rattle.rules.specs.Calls.{quote, admission}
-use Rattle.rules.specs.Meaning.{net_for}
+use Rattle.rules.specs.Replies.{PathReply, reply_of}
+use Rattle.rules.specs.Calls.{number_fits, quote_checks, admit_checks}
+use Rattle.rules.specs.Meaning.{books_in, net_for}
 use Rattle.cases.specs.Document01.{net_a, net_b, AreasLoaded, m2, m3, m11, area_in, Case, cases, Holds, CaseHolds, Margins}
 use Rattle.cases.specs.Replied.{replied, replied_to}
+use Rattle.cases.specs.declared.Ground.{Ground}
+use Rattle.cases.specs.declared.Ground.TheVariants.{OnA, AfterM8, OnNone, OnB}
 use Rattle.cases.specs.declared.Asked.{Asked}
 use Rattle.cases.specs.declared.Asked.TheVariants.{Quote, Admission}
+use Rattle.area.specs.Refusals.{refuses}
+use Rattle.area.specs.Checks.{checked}
 use Rattle.rules.proofs.Meaning.{quote_means, admission_means}
+use Rattle.rules.proofs.Delays.{NoneHeld, unheld_reply, quote_unheld, admission_unheld}
 
 -- ---- the cases
--- the replies of all cases, computed
+-- a call's reply by the links' own delays
+abbrev replied_by_links : List ℕ → Asked → PathReply
+replied_by_links w (Quote r) = checked refuses (quote_checks w work_words path_words r) (unheld_reply (books_in w) r)
+replied_by_links w (Admission c r) = checked refuses (admit_checks w work_words path_words c r) (unheld_reply (books_in w) r)
+
+-- No node of their nets holds anything, so a call replies as it does by the links' own delays.
+unheld_replied : (w : List ℕ) → NoneHeld (table_in w).hold_times → (q : Asked) → replied w q ≡ replied_by_links w q
+unheld_replied w none (Quote r) = quote_unheld w none work_words path_words r
+unheld_replied w none (Admission c r) = admission_unheld w none work_words path_words r c
+
+none_held_in : (k : Ground) → NoneHeld (table_in (area_in k)).hold_times
+unfolding area_in table_in
+none_held_in OnA = (refl, (refl, (refl, (refl, tt))))
+none_held_in AfterM8 = (refl, (refl, (refl, (refl, tt))))
+none_held_in OnNone = (refl, (refl, (refl, (refl, tt))))
+none_held_in OnB = (refl, (refl, (refl, (refl, tt))))
+
+-- those replies of all cases, computed
+replies_by_links : map (λ (c : Case). replied_by_links (area_in c.row.stands) c.row.asked) cases ≡ map (λ (c : Case). c.reply) cases
+unfolding cases area_in well_formed station books request_fits number_fits reply_of net_unheld table_in circuit_of outcome search tried solve solve_in answer_in path_in ebf rounds round column offered relaxed improved initialised filled cell cells traced step_back place_back noted follow distance layer spread problem_one problem_two scaled iter first
+replies_by_links = refl
+
 pub replies : map (λ (c : Case). replied_to c.row) cases ≡ map (λ (c : Case). c.reply) cases
-unfolding cases area_in quote admission table_in circuit_of outcome search tried solve solve_in answer_in path_in ebf rounds round column offered relaxed improved initialised filled cell cells traced step_back place_back noted follow distance layer spread problem_one problem_two scaled iter first
-replies = refl
+replies =
+    ap (λ (f : Case → PathReply). map f cases) (λ t c. unheld_replied (area_in c.row.stands) (none_held_in c.row.stands) c.row.asked t)
+    ∙ replies_by_links
 
 -- a computed reply is what the call means
 replied_holds : (w : List ℕ) (q : Asked) → Holds w q (replied w q)

@@ -52,12 +52,12 @@ class_cases =
     ∷ accepted (cards 64) 64 (refuses 16)
     ∷ accepted card 4294967295 (refuses 16)
     -- the ends of the ranges
-    ∷ accepted (row 1 0 0 1 ++ row 65535 31000000 31000000 8) 0 (grants (asks 1 0 0 1))
-    ∷ accepted (row 1 0 0 1 ++ row 65535 31000000 31000000 8) 1 (grants (asks 65535 31000000 31000000 8))
+    ∷ accepted (row 1 0 0 1 ++ row 65535 61000000 31000000 8) 0 (grants (asks 1 0 0 1))
+    ∷ accepted (row 1 0 0 1 ++ row 65535 61000000 31000000 8) 1 (grants (asks 65535 61000000 31000000 8))
     -- 21: a number past either end, in whatever row the class is not
     ∷ refused (card ++ row 0 400 60 8) 0 21
     ∷ refused (card ++ row 65536 400 60 8) 0 21
-    ∷ refused (card ++ row 1 31000001 60 8) 0 21
+    ∷ refused (card ++ row 1 61000001 60 8) 0 21
     ∷ refused (card ++ row 1 400 31000001 8) 0 21
     ∷ refused (card ++ row 1 400 60 0) 0 21
     ∷ refused (card ++ row 1 400 60 9) 0 21

@@ -12,7 +12,7 @@ use Rattle.network.specs.declared.Request.{Request}
 use Rattle.network.specs.declared.answer.Reduction.TheVariants.{One, Two}
 use Rattle.network.specs.Reduce.{delay_bound, cost_bound, asking}
 use Rattle.area.specs.Layout.{area_words}
-use Rattle.area.specs.Load.{load_answer, loaded}
+use Rattle.area.specs.Load.{LoadInput, input_of, load_answer, loaded}
 use Rattle.area.specs.Refusals.{refuses, grants}
 use Rattle.rules.specs.Replies.{PathReply, granting}
 use Rattle.rules.specs.Calls.{booked}
@@ -45,10 +45,21 @@ links_b =
 abbrev pub blank : List ℕ
 blank = replicate area_words 0
 
--- the same, loaded with four nodes and the links
+-- four nodes with these links and these hold times
+abbrev pub four_nodes : List ℕ → List ℕ → LoadInput
+four_nodes links hold_times = input_of 4 links hold_times
+
+-- document 01's nets have no hold times
+abbrev pub none_held : List ℕ
+none_held = replicate 4 0
+
+abbrev pub unheld : List ℕ → LoadInput
+unheld links = four_nodes links none_held
+
+-- the area of zeros, loaded with four nodes and the links
 unfoldable pub area : List ℕ → List ℕ
 unfolding loaded
-area links = loaded blank 4 links
+area links = loaded blank (unheld links)
 
 unfoldable pub net_a : List ℕ
 unfolding area
@@ -65,7 +76,7 @@ bare = area []
 
 -- Load accepts each of the three
 abbrev pub AreasLoaded : Type 0
-AreasLoaded = All (λ links. load_answer blank 4 links ≡ grants tt) (links_a ∷ links_b ∷ [] ∷ [])
+AreasLoaded = All (λ links. load_answer blank (unheld links) ≡ grants tt) (links_a ∷ links_b ∷ [] ∷ [])
 
 -- ---- the calls
 -- from 0 to 3: the units, the bounds of delay and cost, the coefficient

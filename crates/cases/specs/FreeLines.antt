@@ -15,7 +15,7 @@ use Rattle.rules.specs.Calls.{booked}
 use Rattle.rules.specs.Meaning.{net_for}
 use Rattle.cases.specs.declared.Asked.{Asked}
 use Rattle.cases.specs.declared.Asked.TheVariants.{Quote, Admission}
-use Rattle.cases.specs.Document01.{net_a, area, blank, asks, Holds}
+use Rattle.cases.specs.Document01.{net_a, area, blank, unheld, asks, Holds}
 
 -- ---- the net of free lines
 -- From 0 to 3 by 1 and 2: free lines with a delay (links 0 and 2) or paid ones without (4 and 5), and in between a line that
@@ -35,7 +35,7 @@ unfolding area
 net_f = area links_f
 
 abbrev pub FreeNetLoaded : Type 0
-FreeNetLoaded = load_answer blank 4 links_f ≡ grants tt
+FreeNetLoaded = load_answer blank (unheld links_f) ≡ grants tt
 
 -- the path of free links, and the one of links without a delay
 abbrev pub free_links : List ℕ

@@ -1,6 +1,6 @@
-// Document 01's worked cases (specs/Document01.antt), cases of bounds of 0 (specs/FreeLines.antt) and cases of class tables
-// (specs/ClassCases.antt), with the proofs that they hold (proofs/Worked.antt, and a file of the same name for each of the
-// others). In the code stand the link words of document 01's two nets, the types of a case and a short form of a request, for
+// Document 01's worked cases (specs/Document01.antt), cases of bounds of 0 (specs/FreeLines.antt), of hold times
+// (specs/HoldTimes.antt) and of class tables (specs/ClassCases.antt), with the proofs that they hold (proofs/Worked.antt, and a
+// file of the same name for each of the others). In the code stand the link words of document 01's two nets, the types of a case and a short form of a request, for
 // the programs that load the nets and make the calls. There is no function here.
 #![tactic(auto)]
 
@@ -13,6 +13,9 @@ pub const NET_A: [u32; 20] = [
 
 // The same of net B.
 pub const NET_B: [u32; 20] = [1, 2, 0, 1, 5, 2, 1, 0, 1, 5, 1, 3, 1, 1, 5, 0, 1, 1, 1, 5];
+
+// The hold times of their nodes: they hold nothing.
+pub const NONE_HELD: [u32; 4] = [0, 0, 0, 0];
 
 // The request of these numbers, in document 01's order: from, to, units, delay bound, cost bound and coefficient. It is a
 // macro, since tables are constants.

@@ -3,3 +3,4 @@ pub mod LineBytes
 pub mod Quoted
 pub mod NetA
 pub mod Reported
+pub mod Unheld

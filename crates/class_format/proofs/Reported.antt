@@ -2,27 +2,37 @@
 -- Assumes nothing.
 use mathlib.Core.Path.{◌≡◌, refl, sym, ap, ◌∙◌}
 use mathlib.Core.List.{List, ◌++◌}
-use Prim.Native.Nat.{ℕ, ◌*◌, ◌≤◌, ◌<◌}
+use Prim.Native.Nat.{ℕ, min, ◌*◌, ◌≤◌, ◌<◌}
 use native.Mathlib.Omega.{arith}
 use borrow.Author.Tests.{le-leb, lt-leb}
 use lib.ListN.{length, take, drop, length-append}
 use lib.Seq.{take_at}
-use Rattle.network.specs.Limits.{link_words}
+use Rattle.std.proofs.Math.ListN.{replicate}
+use Rattle.std.proofs.lemmas.List.{take_min}
+use Rattle.network.specs.Limits.{link_words, most_nodes}
 use Rattle.area.specs.Refusals.{refuses, grants}
 use Rattle.area.specs.Layout.{table_words}
 use Rattle.area.specs.Station.{Station}
-use Rattle.area.specs.Load.{load_answer, area_loaded}
+use Rattle.area.specs.Load.{input_of, load_answer, area_loaded}
 use Rattle.area.proofs.Loads.{accepted_station, accepted_formed}
 use Rattle.link_format.specs.declared.Size.{Size}
 use Rattle.link_format.specs.Reading.{read_answer, record_words, table_read, links_in}
 use Rattle.link_format.proofs.Accepted.{records_length, size_read, table_accepted}
 use Rattle.rules.specs.SampleClasses.{sample}
 use Rattle.class_format.specs.Lines.{lines}
-use Rattle.class_format.specs.Output.{file_word, load_word, file_long, refusal, blank, loading_output, load_output, reading_output, file_output, output}
+use Rattle.class_format.specs.Output.{file_word, load_word, file_long, refusal, blank, unheld, loading_output, load_output, reading_output, file_output, output}
 
 -- ---- what a load prints
+-- the program cuts as many hold times as it has, where n is greater
+cut_holds : (n count : ℕ) → count ≡ min n most_nodes → take count (replicate most_nodes 0) ≡ take n (replicate {A = ℕ} most_nodes 0)
+cut_holds n count e = rw e (take_min n (replicate {A = ℕ} most_nodes 0))
+
 module _ (n : ℕ) (links : List ℕ) where
-  load_prints : load_output n links ≡ loading_output (area_loaded blank n links) n (load_answer blank n links)
+  -- what the program loads, with the hold times as it cuts them
+  pub as_cut : (count : ℕ) → count ≡ min n most_nodes → input_of n links (take count (replicate most_nodes 0)) ≡ unheld n links
+  as_cut count e = ap (input_of n links) (cut_holds n count e)
+
+  load_prints : load_output n links ≡ loading_output (area_loaded blank (unheld n links)) n (load_answer blank (unheld n links))
   unfolding load_output
   load_prints = refl
 
@@ -34,21 +44,21 @@ module _ (n : ℕ) (links : List ℕ) where
   unfolding loading_output
   loaded_prints area = refl
 
-  pub load_refused : (k : ℕ) → refuses k ≡ load_answer blank n links → load_output n links ≡ refusal load_word k
-  load_refused k e = load_prints ∙ ap (loading_output (area_loaded blank n links) n) (sym e) ∙ refused_prints (area_loaded blank n links) k
+  pub load_refused : (k : ℕ) → refuses k ≡ load_answer blank (unheld n links) → load_output n links ≡ refusal load_word k
+  load_refused k e = load_prints ∙ ap (loading_output (area_loaded blank (unheld n links)) n) (sym e) ∙ refused_prints (area_loaded blank (unheld n links)) k
 
   -- by the area and the table that the code lends
-  pub load_accepted : (area rows : List ℕ) → (grants tt) ≡ load_answer blank n links → area ≡ area_loaded blank n links → rows ≡ sample
+  pub load_accepted : (area rows : List ℕ) → (grants tt) ≡ load_answer blank (unheld n links) → area ≡ area_loaded blank (unheld n links) → rows ≡ sample
       → load_output n links ≡ lines rows area n
   load_accepted area rows e loaded is =
       rw (loaded, is)
-      (load_prints ∙ ap (loading_output (area_loaded blank n links) n) (sym e) ∙ loaded_prints (area_loaded blank n links))
+      (load_prints ∙ ap (loading_output (area_loaded blank (unheld n links)) n) (sym e) ∙ loaded_prints (area_loaded blank (unheld n links)))
 
   -- an area is loaded only with two nodes or more
-  pub some_nodes : (grants tt) ≡ load_answer blank n links → 1 ≤ n
+  pub some_nodes : (grants tt) ≡ load_answer blank (unheld n links) → 1 ≤ n
   some_nodes e =
-      let formed = accepted_formed blank n links (sym e) in
-      omega (arith, formed.sound.table.«nodes_least», ap (λ (s : Station). s.table.nodes) (accepted_station blank n links (sym e)))
+      let formed = accepted_formed blank (unheld n links) (sym e) in
+      omega (arith, formed.sound.table.«nodes_least», ap (λ (s : Station). s.table.nodes) (accepted_station blank (unheld n links) (sym e)))
 
 -- ---- what a file prints
 module _ (f : List ℕ) where

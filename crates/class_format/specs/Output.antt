@@ -1,9 +1,10 @@
 -- What the class program prints for a link file, as bytes.
 -- Assumes nothing.
-use Rattle.std.specs.Prelude.{ℕ, cond, List, [], ◌∷◌, ◌++◌, leb, length, replicate}
+use Rattle.std.specs.Prelude.{ℕ, cond, List, [], ◌∷◌, ◌++◌, leb, length, take, replicate}
 use Rattle.area.specs.Refusals.{Reply, refuses, grants}
 use Rattle.area.specs.Layout.{area_words, table_words}
-use Rattle.area.specs.Load.{load_answer, area_loaded}
+use Rattle.network.specs.Limits.{most_nodes}
+use Rattle.area.specs.Load.{LoadInput, input_of, load_answer, area_loaded}
 use Rattle.link_format.specs.declared.Size.{Size}
 use Rattle.link_format.specs.Reading.{read_answer, record_words}
 use Rattle.rules.specs.SampleClasses.{sample}
@@ -35,9 +36,14 @@ unfolding refusal lines
 loading_output area n (refuses number) = refusal load_word number
 loading_output area n (grants tt) = lines sample area n
 
+-- the links are loaded with a hold time of 0 for each node, so a line is what the links' own delays give (proofs/Unheld.antt).
+-- There are no more of them than nodes may be; a greater n is refused before they are looked at.
+abbrev pub unheld : ℕ → List ℕ → LoadInput
+unheld n links = input_of n links (take n (replicate most_nodes 0))
+
 unfoldable pub load_output : ℕ → List ℕ → List ℕ
 unfolding loading_output area_loaded load_answer blank
-load_output n links = loading_output (area_loaded blank n links) n (load_answer blank n links)
+load_output n links = loading_output (area_loaded blank (unheld n links)) n (load_answer blank (unheld n links))
 
 -- a refused file prints only that; else its links are loaded
 unfoldable pub reading_output : List ℕ → Reply Size → List ℕ

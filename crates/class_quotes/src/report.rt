@@ -7,7 +7,7 @@ use crate::lines::Classes;
 use area::Refusal;
 use arrayvec::ArrayVec;
 use classes::sample::sample;
-use network::limits::LINK_WORDS;
+use network::limits::{LINK_WORDS, MOST_NODES};
 use station::layout::{AREA_WORDS, TABLE_WORDS};
 use station::load::load;
 
@@ -22,14 +22,15 @@ fn refusal(word: &[u8; 4], k: Refusal) -> ArrayVec<u8, 4096>
     text
 }
 
-// What is printed for n and a table of links: they are loaded into a fresh area, and each class of the sample table is quoted
-// there, to the last node. A loaded area has at least two nodes.
-#[tactic(auto, unfolding(class_format::specs::Output::blank), using(class_format::proofs::Reported::load_refused))]
+// What is printed for n and a table of links: they are loaded into a fresh area, with nodes that hold nothing, and each class of
+// the sample table is quoted there, to the last node. A loaded area has at least two nodes.
 fn quotes(n: u32, links: &[u32]) -> ArrayVec<u8, 4096>
     ensures { result.items ≡ load_output n links.now }
 {
     let mut area = [0u32; AREA_WORDS];
-    match load(n, links, &mut area) {
+    let hold_times = [0u32; MOST_NODES as usize];
+    let count = (n as usize).min(hold_times.len());
+    match load(n, links, &hold_times[..count], &mut area) {
         Err(k) => refusal(b"load", k),
         Ok(()) => Classes {
             rows: &sample(),

@@ -11,7 +11,7 @@ use Rattle.area.specs.Refusals.{grants}
 use Rattle.area.specs.Load.{load_answer, area_loaded}
 use Rattle.ledger.specs.Entries.{Call, quoting, admitting, releasing}
 use Rattle.ledger.specs.History.{Lending, measured, Given, answers, Struck, end, strike, keep, remaining}
-use Rattle.cases.specs.Document01.{links_a}
+use Rattle.cases.specs.Document01.{links_a, unheld}
 use Rattle.cases.specs.declared.Asked.TheVariants.{Quote, Admission}
 use Rattle.call_list.specs.declared.Row.{Row}
 use Rattle.call_list.specs.declared.Row.TheVariants.{Asks, Releases}
@@ -88,10 +88,10 @@ lines_unquoted k (suc n) (a ∷ l) =
     rw (quotes_lent false k (row_at k)) (one_more (is_quote (row_at k)) k a _ _ _ (lines_unquoted (suc k) n l))
 
 -- ---- the second run
-pub text_again : (w v : List ℕ) → load_answer w 4 links_a ≡ grants tt → load_answer v 4 links_a ≡ grants tt
-    → run_text true (area_loaded v 4 links_a) ≡ unquoted_lines (rows_made false) (answers (area_loaded w 4 links_a) (calls false))
+pub text_again : (w v : List ℕ) → load_answer w (unheld links_a) ≡ grants tt → load_answer v (unheld links_a) ≡ grants tt
+    → run_text true (area_loaded v (unheld links_a)) ≡ unquoted_lines (rows_made false) (answers (area_loaded w (unheld links_a)) (calls false))
 unfolding rows_made calls
 text_again w v accepted accepted' =
     ap (lines_of (rows_made true))
-    ((accepted_agree w v accepted accepted').0 ∙ remain_unquoted (struck_calls 0 25) (no_quotes 0 25) (answers (area_loaded w 4 links_a) (calls false)))
-    ∙ lines_unquoted 0 25 (answers (area_loaded w 4 links_a) (calls false))
+    ((accepted_agree w v accepted accepted').0 ∙ remain_unquoted (struck_calls 0 25) (no_quotes 0 25) (answers (area_loaded w (unheld links_a)) (calls false)))
+    ∙ lines_unquoted 0 25 (answers (area_loaded w (unheld links_a)) (calls false))

@@ -18,7 +18,7 @@ ghost use Rattle.area.specs.Refusals.{grants};
 ghost use Rattle.area.specs.Load.{load_answer, area_loaded};
 ghost use Rattle.ledger.specs.History.{answers, area_at_end, bookings};
 ghost use Rattle.history.specs.Lines.{lines_of, unquoted_lines, rows_made, run_text};
-ghost use Rattle.cases.specs.Document01.{links_a};
+ghost use Rattle.cases.specs.Document01.{links_a, unheld};
 ghost use Rattle.call_list.specs.Calls.{calls};
 
 mod bookings;
@@ -27,7 +27,7 @@ mod list;
 use crate::list::{Text, every_call};
 use area::Refusal;
 use arrayvec::ArrayVec;
-use cases::NET_A;
+use cases::{NET_A, NONE_HELD};
 use station::layout::AREA_WORDS;
 use station::load::load;
 
@@ -45,17 +45,17 @@ fn write_loading(rt: &impl Print, loading: Result<(), Refusal>) {
 // Loads net A, which every area that is long enough takes.
 #[tactic(auto, using(call_list::proofs::Runs::load_accepts))]
 fn load_net(rt: &impl Print, area: &mut [u32; AREA_WORDS])
-    ensures accepted { load_answer area.old 4 links_a ≡ grants tt }
-    ensures area { area.new ≡ area_loaded area.old 4 links_a }
+    ensures accepted { load_answer area.old (unheld links_a) ≡ grants tt }
+    ensures area { area.new ≡ area_loaded area.old (unheld links_a) }
 {
-    write_loading(rt, load(4, &NET_A, area));
+    write_loading(rt, load(4, &NET_A, &NONE_HELD, area));
 }
 
 // The list from a load on: its text, and then what is held and free. Answers the text.
 fn run(rt: &impl Print, struck: bool, area: &mut [u32; AREA_WORDS]) -> Text
-    ensures accepted { load_answer area.old 4 links_a ≡ grants tt }
-    ensures area { area.new ≡ area_at_end (area_loaded area.old 4 links_a) (calls struck) }
-    ensures text { result.items ≡ run_text struck (area_loaded area.old 4 links_a) }
+    ensures accepted { load_answer area.old (unheld links_a) ≡ grants tt }
+    ensures area { area.new ≡ area_at_end (area_loaded area.old (unheld links_a)) (calls struck) }
+    ensures text { result.items ≡ run_text struck (area_loaded area.old (unheld links_a)) }
 {
     load_net(rt, area);
     let text = every_call(struck, area);
@@ -73,10 +73,10 @@ fn both_runs(
     first: &mut [u32; AREA_WORDS],
     second: &mut [u32; AREA_WORDS],
 ) -> (Text, Text)
-    ensures first { first.new ≡ area_at_end (area_loaded first.old 4 links_a) (calls false) }
-    ensures second { second.new ≡ area_at_end (area_loaded second.old 4 links_a) (calls true) }
-    ensures text { result.0.items ≡ lines_of (rows_made false) (answers (area_loaded first.old 4 links_a) (calls false)) }
-    ensures unquoted { result.1.items ≡ unquoted_lines (rows_made false) (answers (area_loaded first.old 4 links_a) (calls false)) }
+    ensures first { first.new ≡ area_at_end (area_loaded first.old (unheld links_a)) (calls false) }
+    ensures second { second.new ≡ area_at_end (area_loaded second.old (unheld links_a)) (calls true) }
+    ensures text { result.0.items ≡ lines_of (rows_made false) (answers (area_loaded first.old (unheld links_a)) (calls false)) }
+    ensures unquoted { result.1.items ≡ unquoted_lines (rows_made false) (answers (area_loaded first.old (unheld links_a)) (calls false)) }
     ensures same { Same (bookings second.new) (bookings first.new) }
 {
     let text = run(rt, false, first);

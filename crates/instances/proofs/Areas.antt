@@ -7,11 +7,11 @@ use mathlib.Core.Path.{refl, sym, ap}
 use mathlib.Core.Bool.{true≢false}
 use mathlib.Core.List.{List, [], ◌∷◌}
 use native.Mathlib.Omega.{arith}
-use lib.ListN.{replicate}
+use lib.ListN.{replicate, set}
 use Rattle.std.specs.Prelude.{Some, None}
 use Rattle.network.specs.Loops.{first}
 use Rattle.network.proofs.Paths.{distinct_of}
-use Rattle.area.specs.Station.{Table, Circuit, Station, tail_of, table_in, circuit_of}
+use Rattle.area.specs.Station.{Table, Circuit, Station, tail_of, hold_of, table_in, circuit_of}
 use Rattle.area.specs.Formed.{WellFormed, well_formed}
 use Rattle.area.specs.Moves.{added, Untouched}
 use Rattle.area.specs.Order.{Same, swap, Agrees}
@@ -19,8 +19,9 @@ use Rattle.area.specs.Held.{found_at, FoundAt, ListsHeld}
 use Rattle.area.proofs.Formed.{formed_says, unformed}
 use Rattle.area.proofs.Added.{added_untouched}
 use Rattle.area.proofs.Order.{usage_same, holds_same, count_same}
-use Rattle.area.specs.Load.{table_of, fresh, loaded}
-use Rattle.cases.specs.Document01.{links_a, links_b, three}
+use Rattle.area.specs.Load.{table_of, fresh, loaded, area_loaded}
+use Rattle.cases.specs.Document01.{links_a, links_b, blank, four_nodes, unheld, three}
+use Rattle.cases.specs.HoldTimes.{inner_held}
 use Rattle.instances.specs.Nets.{straight}
 use Rattle.instances.specs.Areas.{fresh_a, fresh_b, circuit, held_a, two_a}
 
@@ -63,10 +64,33 @@ pub round_unformed : WellFormed (added fresh_b (circuit 1 1 (3 ∷ 0 ∷ 1 ∷ 2
 unfolding fresh_b added well_formed table_in circuit_of
 round_unformed = unformed (added fresh_b (circuit 1 1 (3 ∷ 0 ∷ 1 ∷ 2 ∷ []))) refl
 
+-- the hold times of nodes 0 to 3 are words 3,459 to 3,462. On net A loaded with hold times one word is stored: that of node 3
+-- may be as great as a hold time may, and no greater
+abbrev pub stored : ℕ → ℕ → List ℕ
+unfolding area_loaded
+stored i word = set (area_loaded blank (four_nodes links_a inner_held)) i word
+
+pub hold_formed : WellFormed (stored 3462 1000000)
+unfolding area_loaded well_formed table_in circuit_of
+hold_formed = formed_says (stored 3462 1000000) refl
+
+pub hold_unformed : WellFormed (stored 3462 1000001) → ⊥
+unfolding area_loaded well_formed table_in circuit_of
+hold_unformed = unformed (stored 3462 1000001) refl
+
+-- the word past it is no node's, and may be the greatest word of all; so may the last one
+pub past_formed : WellFormed (stored 3463 4294967295)
+unfolding area_loaded well_formed table_in circuit_of
+past_formed = formed_says (stored 3463 4294967295) refl
+
+pub last_formed : WellFormed (stored 3490 4294967295)
+unfolding area_loaded well_formed table_in circuit_of
+last_formed = formed_says (stored 3490 4294967295) refl
+
 -- one word too short
-pub short_unformed : WellFormed (loaded (replicate 3458 0) 4 links_a) → ⊥
+pub short_unformed : WellFormed (loaded (replicate 3490 0) (unheld links_a)) → ⊥
 unfolding loaded well_formed table_in circuit_of
-short_unformed = unformed (loaded (replicate 3458 0) 4 links_a) refl
+short_unformed = unformed (loaded (replicate 3490 0) (unheld links_a)) refl
 
 -- ---- untouched: by an added circuit, and not where another table is loaded
 pub added_leaves : Untouched fresh_a held_a
@@ -76,6 +100,11 @@ added_leaves = added_untouched fresh_a (circuit 7 4 three) (omega arith) (omega 
 pub load_touches : Untouched fresh_a fresh_b → ⊥
 unfolding fresh_a fresh_b
 load_touches h = let same = h.table 3 (omega arith) (omega arith) in omega (arith, same)
+
+-- nor where a hold time is another
+pub hold_touches : Untouched fresh_a (set fresh_a 3462 7) → ⊥
+unfolding fresh_a
+hold_touches h = let same = h.past 3462 (omega arith) in omega (arith, same)
 
 -- ---- the same circuits
 abbrev pub seven : Circuit
@@ -99,13 +128,17 @@ paths_differ h = omega (arith, usage_same h 3)
 
 -- two stations agree that have one table and the same circuits, and not where the tables differ
 abbrev pub holding : List Circuit → Station
-holding cs = record { table = table_of 4 links_a; held = cs }
+holding cs = record { table = table_of (unheld links_a); held = cs }
 
 pub swapped_agree : Agrees (holding (seven ∷ eight ∷ [])) (holding (eight ∷ seven ∷ []))
 swapped_agree = record { table = refl; held = swap }
 
-pub tables_differ : Agrees (fresh 4 links_a) (fresh 4 links_b) → ⊥
+pub tables_differ : Agrees (fresh (unheld links_a)) (fresh (unheld links_b)) → ⊥
 tables_differ h = omega (arith, ap (λ (t : Table). tail_of t 0) h.table)
+
+-- nor where only the hold times differ, as these are of the table too
+pub hold_times_differ : Agrees (fresh (unheld links_a)) (fresh (four_nodes links_a inner_held)) → ⊥
+hold_times_differ h = omega (arith, ap (λ (t : Table). hold_of t 1) h.table)
 
 -- ---- a circuit found by its number: 8 in the second place, and 9 in none
 pub eight_found : FoundAt (two_a 8 10) 2 8 (Some 1)

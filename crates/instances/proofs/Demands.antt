@@ -21,7 +21,7 @@ use Rattle.area.specs.Books.{Books, books, net}
 use Rattle.area.specs.Order.{Same}
 use Rattle.area.specs.Moves.{without}
 use Rattle.area.specs.Refusals.{Rule, FirstApplies, Passes, refuses, grants, IsRefused, IsGranted}
-use Rattle.area.specs.Load.{load_answer, area_loaded}
+use Rattle.area.specs.Load.{LoadInput, load_answer, area_loaded}
 use Rattle.area.specs.Reads.{list_answer, listed, free_answer}
 use Rattle.network.specs.declared.Terms.{Terms}
 use Rattle.rules.specs.Replies.{PathGrant, PathReply, answer_of, path_of, path_after, ReleaseReply}
@@ -37,9 +37,9 @@ use Rattle.ledger.specs.Demand.{FirstDemand, GrantedPath, SecondDemand, ThirdDem
 
 -- ---- the first demand: each call on any words and numbers
 module _ (demand : FirstDemand) where
-  pub load_decided : (w : List ℕ) (n : ℕ) (links : List ℕ)
-      → ((u : Unit {0}) × (load_answer w n links ≡ grants u))
-      ⊎ ((number : ℕ) × (memb number (1 ∷ 2 ∷ 3 ∷ 4 ∷ []) ≡ true) × (load_answer w n links ≡ refuses number) × (area_loaded w n links ≡ w))
+  pub load_decided : (w : List ℕ) (input : LoadInput)
+      → ((u : Unit {0}) × (load_answer w input ≡ grants u))
+      ⊎ ((number : ℕ) × (memb number (1 ∷ 2 ∷ 3 ∷ 4 ∷ 22 ∷ []) ≡ true) × (load_answer w input ≡ refuses number) × (area_loaded w input ≡ w))
   load_decided = demand.load
 
   module _ (w : List ℕ) (work : ℕ) (l : List ℕ) (r : Request) where
@@ -87,13 +87,13 @@ module _ (demand : FirstDemand) where
   file_decided = demand.link_file
 
 -- ---- a quote, an admission of circuit c and a release of circuit d, from the area that Load leaves of w
-module _ (w : List ℕ) (n : ℕ) (links : List ℕ) (work path work' path' : List ℕ) (r r' : Request) (c d : ℕ) where
+module _ (w : List ℕ) (input : LoadInput) (work path work' path' : List ℕ) (r r' : Request) (c d : ℕ) where
   abbrev list : List Lending
   list = quoting work path r ∷ admitting work' path' c r' ∷ releasing d ∷ []
 
   -- the area at first, and before the release
   abbrev start : List ℕ
-  start = area_loaded w n links
+  start = area_loaded w input
 
   abbrev quoted : PathReply
   quoted = calls.quote start (length work) (length path) r
@@ -109,17 +109,17 @@ module _ (w : List ℕ) (n : ℕ) (links : List ℕ) (work path work' path' : Li
 
   -- the ledger's books at first, and before the release
   abbrev early : Books
-  early = books (opened n links)
+  early = books (opened input)
 
   abbrev entered : Ledger
-  entered = moved (opened n links) (admitting (length work') (length path') c r') (told (admitting (length work') (length path') c r') admitted)
+  entered = moved (opened input) (admitting (length work') (length path') c r') (told (admitting (length work') (length path') c r') admitted)
 
   -- the networks that the two requests see
   abbrev g : Net
-  g = net early r.terms.units
+  g = net early r
 
   abbrev g' : Net
-  g' = net early r'.terms.units
+  g' = net early r'
 
   -- the rules of each call
   abbrev quoting_rules : List Rule
@@ -161,7 +161,7 @@ module _ (w : List ℕ) (n : ℕ) (links : List ℕ) (work path work' path' : Li
       go (inl (e, a)) = (a.0, a.1, inl (e, a.2))
       go (inr (e, a)) = (a.0, a.1, inr (e, a.2, a.3))
 
-  module _ (demand : SecondDemand w n links list) where
+  module _ (demand : SecondDemand w input list) where
     pub quoted_path : (b : PathGrant) → quoted ≡ grants b → Good g r b
     quoted_path b e = good g r b (demand.0 b e)
 
@@ -169,7 +169,7 @@ module _ (w : List ℕ) (n : ℕ) (links : List ℕ) (work path work' path' : Li
     admitted_path b e = good g' r' b (demand.1.0 b e)
 
   -- ---- the third demand
-  module _ (demand : ThirdDemand w n links list) where
+  module _ (demand : ThirdDemand w input list) where
     -- refused with a number just where it is the number of the first rule that applies
     pub quote_refused : (number : ℕ) → (quoted ≡ refuses number) ↔ FirstApplies (quoting_rules ++ search_rules g r) number
     quote_refused = demand.refusals.0
@@ -224,7 +224,7 @@ module _ (w : List ℕ) (n : ℕ) (links : List ℕ) (work path work' path' : Li
         subst (λ (a : PathReply). Same (bookings (calls.cleared later d freed)) (without d (held a))) e demand.books
       where
         held : PathReply → List Circuit
-        held a = (moved (opened n links) (admitting (length work') (length path') c r') (told (admitting (length work') (length path') c r') a)).held
+        held a = (moved (opened input) (admitting (length work') (length path') c r') (told (admitting (length work') (length path') c r') a)).held
 
     -- an overqualified path is enough
     pub quote_enough : Passes quoting_rules → (k : ℕ) → Distance g r.source r.target k → (p : List ℕ)
@@ -239,10 +239,10 @@ module _ (w : List ℕ) (n : ℕ) (links : List ℕ) (work path work' path' : Li
 
     -- the quote struck: on any area that Load accepts, the other two calls, lent as many words, answer as they did, and
     -- leave the same bookings
-    pub unquoted : (v : List ℕ) → load_answer v n links ≡ grants tt → (lent lent' : List ℕ) → length work' ≡ length lent → length path' ≡ length lent'
-        → (answers (area_loaded v n links) (admitting lent lent' c r' ∷ releasing d ∷ [])
+    pub unquoted : (v : List ℕ) → load_answer v input ≡ grants tt → (lent lent' : List ℕ) → length work' ≡ length lent → length path' ≡ length lent'
+        → (answers (area_loaded v input) (admitting lent lent' c r' ∷ releasing d ∷ [])
         ≡ of_request (answer_of admitted) (path_of admitted) ∷ of_release freed ∷ [])
-        × Same (bookings (area_at_end (area_loaded v n links) (admitting lent lent' c r' ∷ releasing d ∷ []))) (bookings (calls.cleared later d freed))
+        × Same (bookings (area_at_end (area_loaded v input) (admitting lent lent' c r' ∷ releasing d ∷ []))) (bookings (calls.cleared later d freed))
     unquoted v accepted lent lent' e f =
         let said = demand.struck v accepted (admitting lent lent' c r' ∷ releasing d ∷ [])
         (strike (keep (ap₂ (λ (a b : ℕ). admitting a b c r') e f) (keep refl end))) in

@@ -46,7 +46,7 @@ use Rattle.rules.proofs.CallCases.{request_passes, number_passes, fails_12, numb
 use Rattle.ledger.specs.Entries.{admitting}
 use Rattle.ledger.specs.History.{Lending, Given, of_request, path_given, reply_to, area_after, answers, area_at_end}
 use Rattle.cases.specs.Document01.{blank}
-use Rattle.instances.specs.Areas.{circuit, one_link, circuits_to, filled}
+use Rattle.instances.specs.Areas.{circuit, two_nodes, circuits_to, filled}
 
 -- one unit over the only link
 abbrev pub asked : Request
@@ -74,23 +74,23 @@ circuits_holds (suc k) c low = rw (ne_eqb c (suc k) λ e. omega (arith, e)) (cir
 
 -- ---- what the area holds
 abbrev holding : ℕ → Station
-holding k = record { table = table_of 2 one_link; held = circuits_to k }
+holding k = record { table = table_of two_nodes; held = circuits_to k }
 
 record Reached (k : ℕ) : Type 0 where
   is : station (filled k) ≡ holding k
   formed : WellFormed (filled k)
 
-pub link_accepted : load_answer blank 2 one_link ≡ grants tt
+pub link_accepted : load_answer blank two_nodes ≡ grants tt
 unfolding load_answer
 link_accepted = refl
 
 at_first : Reached 0
 unfolding filled
 at_first =
-    record { is = accepted_station blank 2 one_link link_accepted; formed = accepted_formed blank 2 one_link link_accepted }
+    record { is = accepted_station blank two_nodes link_accepted; formed = accepted_formed blank two_nodes link_accepted }
 
 -- a request sees the same network, as long as a unit is free
-alike : (k : ℕ) → k < 65535 → Alike (net (books (holding k)) 1) (net (books (holding 0)) 1)
+alike : (k : ℕ) → k < 65535 → Alike (net (books (holding k)) asked) (net (books (holding 0)) asked)
 unfolding net books
 alike k low =
     record {
@@ -103,18 +103,18 @@ alike k low =
       cost = λ i l. refl;
     }
   where
-    usable : (i : ℕ) → i < 1 → (net (books (holding k)) 1).usable i ≡ (net (books (holding 0)) 1).usable i
+    usable : (i : ℕ) → i < 1 → (net (books (holding k)) asked).usable i ≡ (net (books (holding 0)) asked).usable i
     usable zero l = le-leb 1 (65535 - usage (circuits_to k) 0) (omega (arith, circuits_usage k))
     usable (suc i) l = absurd (omega (arith, l))
 
-first_found : outcome (net (books (holding 0)) 1) asked ≡ granted One (0 ∷ [])
+first_found : outcome (net (books (holding 0)) asked) asked ≡ granted One (0 ∷ [])
 unfolding net books outcome search tried solve solve_in answer_in path_in ebf rounds round column offered relaxed improved initialised filled_cells cell cells traced step_back place_back noted follow distance layer spread problem_one problem_two scaled member inserted iter first
 first_found = refl
 
 found : (k : ℕ) → k < 65535 → searched (books (holding k)) asked ≡ by_link
 unfolding searched books
 found k low =
-    ap (reply_of (net (books (holding k)) 1))
+    ap (reply_of (net (books (holding k)) asked))
     (choice_depends (books (holding k)) (books (holding 0)) asked (alike k low) ∙ first_found)
 
 -- the circuit after them has a new number
@@ -208,12 +208,12 @@ module _ (work path : List ℕ) (memory : 16384 ≤ length work) (buffer : 31 �
       )
 
   -- circuits 1 to 64 are granted
-  pub all_granted : Granted (answers (area_loaded blank 2 one_link) (calls 0 64))
+  pub all_granted : Granted (answers (area_loaded blank two_nodes) (calls 0 64))
   unfolding filled
   all_granted = granted_all 0 64 (omega arith)
 
   -- and after them circuit 65 is refused with 12
-  pub then_twelve : reply_to (area_at_end (area_loaded blank 2 one_link) (calls 0 64)) (call 65) ≡ refuses 12
+  pub then_twelve : reply_to (area_at_end (area_loaded blank two_nodes) (calls 0 64)) (call 65) ≡ refuses 12
   unfolding filled
   then_twelve =
       ap (λ (w : List ℕ). reply_to w (call 65)) (booked_all 0 64 (omega arith))

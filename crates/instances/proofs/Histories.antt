@@ -26,21 +26,21 @@ use Rattle.ledger.specs.Entries.{admitting, releasing}
 use Rattle.ledger.specs.History.{Lending, path_given, answers, area_at_end, bookings, Struck, end, strike, keep, remaining}
 use Rattle.ledger.specs.Demand.{ThirdDemand}
 use Rattle.ledger.proofs.Demands.{third_demand}
-use Rattle.cases.specs.Document01.{blank, links_a, m3, three}
+use Rattle.cases.specs.Document01.{blank, links_a, unheld, m3, three}
 use Rattle.instances.specs.Areas.{circuit}
 use Rattle.instances.specs.Calls.{work, path, calls, expected, unquoted}
 
 -- ---- the third demand's premise is met, so it holds of the list
-pub accepted : load_answer blank 4 links_a ≡ grants tt
+pub accepted : load_answer blank (unheld links_a) ≡ grants tt
 unfolding load_answer
 accepted = refl
 
-pub demand_met : ThirdDemand blank 4 links_a calls
-demand_met = third_demand 4 links_a blank accepted calls
+pub demand_met : ThirdDemand blank (unheld links_a) calls
+demand_met = third_demand (unheld links_a) blank accepted calls
 
 -- ---- the answers to the list, and the bookings in the end
 abbrev pub start : List ℕ
-start = area_loaded blank 4 links_a
+start = area_loaded blank (unheld links_a)
 
 pub list_answers : (answers start calls ≡ expected)
     × (bookings (area_at_end start calls) ≡ circuit 8 1 three ∷ [])

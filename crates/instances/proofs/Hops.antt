@@ -24,9 +24,10 @@ use Rattle.search.specs.Roles.{problem_by, outcome_by}
 use Rattle.search.specs.Solver.{SameEdges, SameWeights, Reduces, Weighed, net_in, problem_of}
 use Rattle.search.proofs.Reductions.{weighed_fits, weighed_reduces}
 use Rattle.cases.specs.Document01.{links_a, m3, three}
-use Rattle.instances.specs.Nets.{net_a, shut_a, m4}
+use Rattle.instances.specs.Nets.{column_of, net_a, shut_a, m4}
+use Rattle.instances.proofs.LinkTables.{four, link_table_lem}
 use Rattle.instances.proofs.Ranges.{m3_terms}
-use Rattle.instances.proofs.Searches.{four, link_table_lem, other, alike}
+use Rattle.instances.proofs.Searches.{other, alike}
 
 -- ---- the links of M3's problem one: the delay is kept, the cost scaled to x = 8
 abbrev hop : ℕ → ℕ → Bool → ℕ → ℕ → Hop
@@ -55,7 +56,7 @@ not_usable h = true≢false (sym h.usable)
 -- ---- they are in their ranges, and not between three nodes, nor of 33
 pub hops_fit : HopsFit 4 8 8 hops_a
 unfolding net_of
-hops_fit = weighed_fits 4 4 links_a (replicate 4 true) m3 8 One hops_a link_table_lem m3_terms (omega arith) refl weighed 8 refl
+hops_fit = weighed_fits 4 4 links_a (replicate 4 true) (column_of links_a 2 4) (column_of links_a 3 4) m3 8 One hops_a link_table_lem m3_terms (omega arith) refl weighed 8 refl
 
 pub head_high : HopsFit 3 8 8 hops_a → ⊥
 head_high h = omega (arith, h.head 2 (omega arith))
@@ -69,7 +70,7 @@ reduced = record { nodes = 4; x = 8; bound = 8; hops = record { ref_ptr = (0, 0)
 
 pub reduces : Reduces net_a (problem_by net_a m3 8 One) reduced
 unfolding net_of
-reduces = weighed_reduces 4 4 links_a (replicate 4 true) m3 8 One hops_a reduced refl refl refl refl refl weighed
+reduces = weighed_reduces 4 4 links_a (replicate 4 true) (column_of links_a 2 4) (column_of links_a 3 4) m3 8 One hops_a reduced refl refl refl refl refl weighed
 
 -- not those of problem two, nor of net A with no usable link
 pub not_two : Reduces net_a (problem_by net_a m3 8 Two) reduced → ⊥

@@ -2,7 +2,11 @@ pub mod Ranges
 pub mod Paths
 pub mod Problems
 pub mod FreeLines
+pub mod LinkTables
 pub mod Searches
+pub mod HoldTimes
+pub mod HoldLoads
+pub mod HoldGrants
 pub mod Hops
 pub mod Areas
 pub mod Stations

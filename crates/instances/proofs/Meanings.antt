@@ -1,7 +1,7 @@
 -- What the contracts' clauses `means` give a caller, spelled out, each part taken from the clause alone: the words, the answer
 -- and what is left are any, so a clause that said less would not give it.
 -- Assumes nothing.
-use Prim.Native.Nat.{ℕ, ◌≤◌, ◌<◌}
+use Prim.Native.Nat.{ℕ, ◌+◌, ◌≤◌, ◌<◌}
 use mathlib.Core.Path.{◌≡◌, refl}
 use mathlib.Core.Bool.{false, true≢false}
 use mathlib.Core.List.{List, [], ◌∷◌, ◌++◌}
@@ -167,3 +167,7 @@ module _ (w w' : List ℕ) (h : Untouched w w') where
 
   pub untouched_past : (i : ℕ) → 3458 < i → get_or w' i 0 ≡ get_or w i 0
   untouched_past i high = h.past i (omega arith)
+
+  -- among them each node's hold time
+  pub untouched_holds : (v : ℕ) → get_or w' (3459 + v) 0 ≡ get_or w (3459 + v) 0
+  untouched_holds v = h.past (3459 + v) (omega arith)

@@ -4,11 +4,12 @@
 -- Assumes nothing.
 use Prim.Native.Nat.{ℕ, ◌<◌}
 use mathlib.Core.Path.{◌≡◌, refl, subst}
+use mathlib.Core.Bool.{true, false}
 use mathlib.Core.List.{List}
 use mathlib.Core.Logic.{inl, inr}
 use mathlib.Core.Option.{Option, none, some}
 use native.Mathlib.Omega.{arith}
-use Rattle.network.specs.Loops.{iter, first}
+use Rattle.network.specs.Loops.{iter, first, every}
 use Rattle.network.specs.Net.{Ends}
 use Rattle.network.specs.Words.{net_of}
 use Rattle.network.specs.Scale.{scaled, Overqualified}
@@ -25,15 +26,20 @@ use Rattle.network.specs.declared.answer.Reduction.TheVariants.{One, Two}
 use Rattle.area.specs.Formed.{LinkFits, links_fit}
 use Rattle.area.proofs.Formed.{links_says}
 use Rattle.area.specs.Load.{table_of}
-use Rattle.cases.specs.Document01.{links_a, m2, m3, three}
+use Rattle.cases.specs.Document01.{links_a, unheld, m2, m3, three}
 use Rattle.instances.specs.Nets.{net_a, shut_a, straight, m1, m4, m6}
 use Rattle.instances.proofs.Paths.{three_path, straight_path, distance_one, shut_no_path}
 
 -- ---- what the search answers
 -- each link of net A is in its ranges
-pub links_fit_lem : (i : ℕ) → i < 4 → LinkFits (table_of 4 links_a) i
+pub links_fit_lem : (i : ℕ) → i < 4 → LinkFits (table_of (unheld links_a)) i
 unfolding links_fit
-links_fit_lem = links_says (table_of 4 links_a) refl
+links_fit_lem = links_says (table_of (unheld links_a)) refl
+
+-- and the test says so; not of three nodes, as link 2 leads to node 3
+pub links_tested : (links_fit 4 4 links_a ≡ true) × (links_fit 3 4 links_a ≡ false)
+unfolding links_fit every
+links_tested = (refl, refl)
 
 pub ends : Ends net_a
 unfolding net_of

@@ -26,6 +26,14 @@ pub most_terms : TermsFit (asks most_units most_delay_bound most_cost_bound most
 unfolding terms_fit
 most_terms = terms_says (asks most_units most_delay_bound most_cost_bound most_coefficient) refl
 
+-- in figures: no greater delay bound than 61,000,000 is taken
+pub most_delay_taken : TermsFit (asks 1 61000000 20 8)
+unfolding terms_fit
+most_delay_taken = terms_says (asks 1 61000000 20 8) refl
+
+pub more_delay_not_taken : TermsFit (asks 1 61000001 20 8) → ⊥
+more_delay_not_taken h = omega (arith, h.delay_most)
+
 -- a job that may cost nothing, one that may take no time, and one with both
 pub no_cost : TermsFit (asks 1 8 0 8)
 unfolding terms_fit

@@ -28,7 +28,7 @@ use Rattle.ledger.specs.Entries.{quoting, opened, checks, Refuses}
 use Rattle.ledger.specs.Sentences.{Solvable, Overqualifies}
 use Rattle.ledger.specs.Demand.{Decided, ThirdDemand, GrantedPath}
 use Rattle.ledger.proofs.Demands.{third_demand, any_quote}
-use Rattle.cases.specs.Document01.{blank, links_a, m3, three}
+use Rattle.cases.specs.Document01.{blank, links_a, unheld, m3, three}
 use Rattle.instances.specs.Nets.{net_a, m1}
 use Rattle.instances.specs.Areas.{fresh_a, held_a}
 use Rattle.instances.specs.Calls.{work, path}
@@ -55,11 +55,11 @@ unfolding held_a books station table_in circuit_of
 number_unfit h = true≢false h.new
 
 -- ---- the rules before the search
-pub passes : Passes (checks (books (opened 4 links_a)) (quoting 16384 31 m3))
+pub passes : Passes (checks (books (opened (unheld links_a))) (quoting 16384 31 m3))
 unfolding books
 passes = (λ h. omega (arith, h), (λ h. omega (arith, h), (λ h. h request_fits_lem, tt)))
 
-pub not_passes : Passes (checks (books (opened 4 links_a)) (quoting 16383 31 m3)) → ⊥
+pub not_passes : Passes (checks (books (opened (unheld links_a))) (quoting 16383 31 m3)) → ⊥
 not_passes h = h.0 (omega arith)
 
 -- ---- an answer that a call may give: a grant, or a refusal with one of its numbers that keeps what was lent
@@ -101,21 +101,21 @@ not_overqualifies h =
 
 -- ---- the ledger's refusals, of a quote on net A
 -- the third demand of a list of one quote
-demand : (r : Request) → ThirdDemand blank 4 links_a (quoting (work 0) (path 0) r ∷ [])
-demand r = third_demand 4 links_a blank loads.loaded (quoting (work 0) (path 0) r ∷ [])
+demand : (r : Request) → ThirdDemand blank (unheld links_a) (quoting (work 0) (path 0) r ∷ [])
+demand r = third_demand (unheld links_a) blank loads.loaded (quoting (work 0) (path 0) r ∷ [])
 
 -- it refuses M1 with 10, and with no other number
-pub refuses_ten : Refuses (books (opened 4 links_a)) (quoting 16384 31 m1) 10
+pub refuses_ten : Refuses (books (opened (unheld links_a))) (quoting 16384 31 m1) 10
 unfolding fresh_a
 refuses_ten = ((demand m1).refusals.0 10).0 quotes.ten
 
-pub refuses_ten_only : (number : ℕ) → Refuses (books (opened 4 links_a)) (quoting 16384 31 m1) number → number ≡ 10
+pub refuses_ten_only : (number : ℕ) → Refuses (books (opened (unheld links_a))) (quoting 16384 31 m1) number → number ≡ 10
 unfolding fresh_a
 refuses_ten_only number h =
     let same : refuses number ≡ refuses 10 = sym (((demand m1).refusals.0 number).1 h) ∙ quotes.ten in cc same
 
 -- it refuses M3 with none
-pub refuses_none : (number : ℕ) → Refuses (books (opened 4 links_a)) (quoting 16384 31 m3) number → ⊥
+pub refuses_none : (number : ℕ) → Refuses (books (opened (unheld links_a))) (quoting 16384 31 m3) number → ⊥
 unfolding fresh_a
 refuses_none number h = granted_not_refused _ number (sym (((demand m3).refusals.0 number).1 h) ∙ quotes.by_one)
 

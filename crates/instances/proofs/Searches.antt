@@ -2,7 +2,7 @@
 -- answer as the code has them; networks that a search cannot tell apart, and some that it can; a table with every link of
 -- a column settled, and one without.
 -- Assumes nothing.
-use Prim.Native.Nat.{ℕ, zero, suc, ◌+◌, ◌≤◌, ◌<◌}
+use Prim.Native.Nat.{ℕ, ◌+◌, ◌≤◌, ◌<◌}
 use mathlib.Core.Path.{◌≡◌, refl, sym, ap}
 use mathlib.Core.Bool.{true, true≢false}
 use mathlib.Core.List.{List, [], ◌∷◌}
@@ -14,7 +14,7 @@ use Rattle.std.specs.Prelude.{Some, None, Ok, Err}
 use Rattle.network.specs.Loops.{iter, every, first}
 use Rattle.network.proofs.Loops.{every_at}
 use Rattle.network.specs.Net.{Net, Ends}
-use Rattle.network.specs.Words.{net_of, LinkFields, LinkTable}
+use Rattle.network.specs.Words.{net_of}
 use Rattle.network.specs.NodeSet.{member, inserted}
 use Rattle.network.specs.Scale.{scaled}
 use Rattle.network.specs.Problem.{Problem}
@@ -28,37 +28,17 @@ use Rattle.network.specs.declared.Grant.{Grant}
 use Rattle.network.specs.declared.answer.NoRoute.TheVariants as why
 use Rattle.search.proofs.Result.{ready_searchable}
 use Rattle.cases.specs.Document01.{links_a, m3, three}
-use Rattle.instances.specs.Nets.{net_a, shut_a, straight, m1, m4}
+use Rattle.instances.specs.Nets.{column_of, net_of_words, net_a, shut_a, straight, m1, m4}
+use Rattle.instances.proofs.LinkTables.{four, link_table_lem}
 use Rattle.instances.proofs.Ranges.{m3_terms}
 use Rattle.instances.proofs.Paths.{three_path, distance_one, shut_no_path}
-use Rattle.instances.proofs.Problems.{links_fit_lem, m3_solves, m3_enough, m1_none_one, m1_none_two, m4_none_one, straight_over}
+use Rattle.instances.proofs.Problems.{m3_solves, m3_enough, m1_none_one, m1_none_two, m4_none_one, straight_over}
 use Rattle.network.specs.declared.answer.Reduction.{Reduction}
 use Rattle.network.specs.declared.answer.Reduction.TheVariants.{One, Two}
 
 -- ---- the ranges and lengths
-pub link_words_lem : LinkFields 4 4 links_a
-link_words_lem =
-    record {
-      whole = refl;
-      from = λ i low. (links_fit_lem i low).from;
-      to = λ i low. (links_fit_lem i low).to;
-      delay = λ i low. (links_fit_lem i low).delay;
-      cost = λ i low. (links_fit_lem i low).cost;
-    }
-
--- not between three nodes: link 2 leads to node 3
-pub link_words_high : LinkFields 3 4 links_a → ⊥
-link_words_high h = let high = h.to 2 (omega arith) in omega (arith, high)
-
--- with the counts of nodes and links in their ranges it is a link table, and not of 33 nodes
-pub link_table_lem : LinkTable 4 4 links_a
-link_table_lem = record { nodes_some = omega arith; nodes_most = omega arith; links_most = omega arith; words = link_words_lem }
-
-pub link_table_large : LinkTable 33 4 links_a → ⊥
-link_table_large h = omega (arith, h.nodes_most)
-
 -- the ends of net A's links are nodes of four (`ends` of Problems.antt), and not of three
-pub ends_high : Ends (net_of 3 4 links_a (replicate 4 true)) → ⊥
+pub ends_high : Ends (net_of_words 3 4 links_a (replicate 4 true)) → ⊥
 unfolding net_of
 ends_high h = let high = h.heads 2 (omega arith) in omega (arith, high)
 
@@ -80,7 +60,7 @@ unready h = let long = h.memory in omega (arith, long, length-replicate {A = ℕ
 
 pub searchable : Searchable net_a m3
 unfolding net_of
-searchable = ready_searchable 4 4 links_a (replicate 4 true) (replicate 16384 0) (replicate 31 0) m3 link_table_lem ready
+searchable = ready_searchable 4 4 links_a (replicate 4 true) (column_of links_a 2 4) (column_of links_a 3 4) (replicate 16384 0) (replicate 31 0) m3 link_table_lem ready
 
 -- not from a node to itself
 pub unsearchable : Searchable net_a (asking 0 0 1 8 20 8) → ⊥
@@ -147,19 +127,12 @@ delay_invented e =
     omega (arith, delay)
 
 -- ---- networks alike
--- net A with other capacities, a word and a flag more
+-- net A with other capacities; a word, a flag, a delay and a cost more
 abbrev pub other : Net
 unfolding net_of
 other =
     net_of 4 4 (0 ∷ 1 ∷ 2 ∷ 5 ∷ 9 ∷ 1 ∷ 2 ∷ 2 ∷ 5 ∷ 9 ∷ 2 ∷ 3 ∷ 2 ∷ 5 ∷ 9 ∷ 0 ∷ 3 ∷ 9 ∷ 1 ∷ 9 ∷ 7 ∷ []) (replicate 5 true)
-
--- what agrees at each link of four
-pub four : {A : Type 0} (f h : ℕ → A) → f 0 ≡ h 0 → f 1 ≡ h 1 → f 2 ≡ h 2 → f 3 ≡ h 3 → (i : ℕ) → i < 4 → f i ≡ h i
-four f h a b c d zero low = a
-four f h a b c d (suc zero) low = b
-four f h a b c d (suc (suc zero)) low = c
-four f h a b c d (suc (suc (suc zero))) low = d
-four f h a b c d (suc (suc (suc (suc i)))) low = absurd (omega (arith, low))
+    (2 ∷ 2 ∷ 2 ∷ 9 ∷ 7 ∷ []) (5 ∷ 5 ∷ 5 ∷ 1 ∷ 7 ∷ [])
 
 pub alike : Alike net_a other
 unfolding net_of

@@ -5,22 +5,30 @@ use mathlib.Core.List.{[], ◌∷◌}
 use lib.ListN.{replicate}
 use Rattle.area.specs.Refusals.{refuses, grants}
 use Rattle.area.specs.Station.{table_in, circuit_of}
-use Rattle.area.specs.Load.{load_answer, area_loaded}
+use Rattle.area.specs.Load.{input_of, load_answer, area_loaded}
 use Rattle.area.specs.Reads.{list_answer, listed, free_answer}
-use Rattle.cases.specs.Document01.{blank, links_a}
+use Rattle.cases.specs.Document01.{blank, links_a, four_nodes, unheld}
 use Rattle.instances.specs.Areas.{held_a, two_a}
 
 -- an area that is a word too short, one node and 33, words that are no whole link and words of 257 links, a link to a
--- node that is not there; net A is loaded, and a refused load changes nothing
+-- node that is not there, a hold time too few, one too many and one out of range. Where hold times are refused and so is
+-- what comes before them, 3 and 4 come first. Net A is loaded, with the greatest hold times too; a refused load changes nothing
 pub record Loads : Type 0 where
-  pub one : load_answer (replicate 3458 0) 4 links_a ≡ refuses 1
-  pub low_two : load_answer blank 1 links_a ≡ refuses 2
-  pub high_two : load_answer blank 33 links_a ≡ refuses 2
-  pub part_three : load_answer blank 4 (0 ∷ []) ≡ refuses 3
-  pub many_three : load_answer blank 4 (replicate 1285 0) ≡ refuses 3
-  pub four : load_answer blank 3 links_a ≡ refuses 4
-  pub loaded : load_answer blank 4 links_a ≡ grants tt
-  pub unchanged : area_loaded blank 3 links_a ≡ blank
+  pub one : load_answer (replicate 3490 0) (unheld links_a) ≡ refuses 1
+  pub low_two : load_answer blank (input_of 1 links_a (0 ∷ [])) ≡ refuses 2
+  pub high_two : load_answer blank (input_of 33 links_a (replicate 33 0)) ≡ refuses 2
+  pub part_three : load_answer blank (unheld (0 ∷ [])) ≡ refuses 3
+  pub many_three : load_answer blank (unheld (replicate 1285 0)) ≡ refuses 3
+  pub four : load_answer blank (input_of 3 links_a (replicate 3 0)) ≡ refuses 4
+  pub few_twenty_two : load_answer blank (four_nodes links_a (replicate 3 0)) ≡ refuses 22
+  pub many_twenty_two : load_answer blank (four_nodes links_a (replicate 5 0)) ≡ refuses 22
+  pub high_twenty_two : load_answer blank (four_nodes links_a (0 ∷ 0 ∷ 0 ∷ 1000001 ∷ [])) ≡ refuses 22
+  pub three_sooner : load_answer blank (four_nodes (0 ∷ []) (replicate 3 0)) ≡ refuses 3
+  pub four_sooner : load_answer blank (input_of 3 links_a (replicate 4 1000001)) ≡ refuses 4
+  pub loaded : load_answer blank (unheld links_a) ≡ grants tt
+  pub loaded_held : load_answer blank (four_nodes links_a (replicate 4 1000000)) ≡ grants tt
+  pub unchanged : area_loaded blank (input_of 3 links_a (replicate 3 0)) ≡ blank
+  pub hold_unchanged : area_loaded blank (four_nodes links_a (replicate 3 0)) ≡ blank
 
 -- an area that is not well formed, a buffer that is too short; the numbers of two circuits, and a word that is kept
 pub record Listings : Type 0 where
@@ -46,8 +54,15 @@ loads =
       part_three = refl;
       many_three = refl;
       four = refl;
+      few_twenty_two = refl;
+      many_twenty_two = refl;
+      high_twenty_two = refl;
+      three_sooner = refl;
+      four_sooner = refl;
       loaded = refl;
+      loaded_held = refl;
       unchanged = refl;
+      hold_unchanged = refl;
     }
 
 pub listings : Listings

@@ -3,18 +3,18 @@
 use Rattle.std.specs.Prelude.{ℕ, zero, suc, List, [], ◌∷◌}
 use Rattle.area.specs.Station.{Circuit}
 use Rattle.area.specs.Moves.{added}
-use Rattle.area.specs.Load.{area_loaded}
-use Rattle.cases.specs.Document01.{links_a, links_b, blank, three}
+use Rattle.area.specs.Load.{LoadInput, input_of, area_loaded}
+use Rattle.cases.specs.Document01.{links_a, links_b, blank, unheld, three}
 use Rattle.instances.specs.Nets.{straight}
 
 -- net A and net B loaded
 unfoldable pub fresh_a : List ℕ
 unfolding area_loaded
-fresh_a = area_loaded blank 4 links_a
+fresh_a = area_loaded blank (unheld links_a)
 
 unfoldable pub fresh_b : List ℕ
 unfolding area_loaded
-fresh_b = area_loaded blank 4 links_b
+fresh_b = area_loaded blank (unheld links_b)
 
 abbrev pub circuit : ℕ → ℕ → List ℕ → Circuit
 circuit c u p = record { number = c; units = u; path = p }
@@ -33,11 +33,14 @@ two_a c u = added held_a (circuit c u straight)
 abbrev pub one_link : List ℕ
 one_link = 0 ∷ 1 ∷ 2 ∷ 5 ∷ 65535 ∷ []
 
+abbrev pub two_nodes : LoadInput
+two_nodes = input_of 2 one_link (0 ∷ 0 ∷ [])
+
 abbrev pub circuits_to : ℕ → List Circuit
 circuits_to zero = []
 circuits_to (suc k) = circuit (suc k) 1 (0 ∷ []) ∷ circuits_to k
 
 unfoldable pub filled : ℕ → List ℕ
 unfolding area_loaded added
-filled zero = area_loaded blank 2 one_link
+filled zero = area_loaded blank two_nodes
 filled (suc k) = added (filled k) (circuit (suc k) 1 (0 ∷ []))

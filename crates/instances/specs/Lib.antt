@@ -1,4 +1,5 @@
 -- What the instances are about.
 pub mod Nets
 pub mod Areas
+pub mod HoldTimes
 pub mod Calls

@@ -78,8 +78,8 @@ pub every_call_decided : FirstDemand
 unfolding load_answer area_loaded list_answer listed free_answer check_answer class_answer read_answer table_read path_after calls.booked calls.cleared
 every_call_decided =
     record {
-      load = λ w n links.
-          by_checks (load_checks w n links) tt w (loaded w n links);
+      load = λ w input.
+          by_checks (load_checks w input) tt w (loaded w input);
       quote = λ w work l r.
           by_rules _ (quote_rules w work (length l) r ++ search_rules (net_for w r) r) (λ (a : PathReply). path_after a l ≡ l) (λ k. refl)
           (calls.quote w work (length l) r)

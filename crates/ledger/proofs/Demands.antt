@@ -1,4 +1,4 @@
--- The three demands. The first on any words and numbers at all; the third, and beside it the second, for every n, link words and area that Load accepts, and every list of
+-- The three demands. The first on any words and numbers at all; the third, and beside it the second, for all numbers and every area that Load accepts, and every list of
 -- admissions, releases and quotes, refused ones included, with work memory and path buffer of any length and contents at
 -- each call. specs/Demand.antt says what is claimed.
 -- Assumes nothing.
@@ -8,51 +8,52 @@ use mathlib.Core.List.{List, ◌++◌}
 use mathlib.Core.Logic.{◌↔◌}
 use Rattle.network.specs.declared.Request.{Request}
 use Rattle.area.specs.Station.{station}
-use Rattle.area.specs.Books.{Books}
+use Rattle.area.specs.Books.{Books, path_delay}
 use Rattle.area.specs.Formed.{WellFormed}
 use Rattle.area.specs.Order.{Agrees}
 use Rattle.area.specs.Refusals.{Passes, IsRefused}
 use Rattle.area.proofs.Order.{agrees_eq, agrees_next, agrees_sym}
 use Rattle.area.specs.Refusals.{grants}
-use Rattle.area.specs.Load.{load_answer, area_loaded}
+use Rattle.area.specs.Load.{LoadInput, load_answer, area_loaded}
 use Rattle.area.proofs.Loads.{accepted_station, accepted_formed}
+use Rattle.rules.specs.Replies.{PathGrant}
 use Rattle.rules.specs.Calls.{quote, admission}
 use Rattle.rules.specs.Allowed.{number_rules, search_rules}
 use Rattle.rules.specs.Meaning.{books_in, net_for}
 use Rattle.rules.proofs.Meaning.{quote_means, admission_means}
 use Rattle.ledger.specs.Entries.{Call, ReplyTo, opened, checks}
 use Rattle.ledger.specs.History.{Lending, history}
-use Rattle.ledger.specs.Sentences.{OfRequest, Feasible, ZeroBound}
+use Rattle.ledger.specs.Sentences.{AtRequest, OfRequest, Feasible, ZeroBound}
 use Rattle.ledger.specs.Demand.{FirstDemand, PathsGranted, Throughout, SecondDemand, ThirdDemand}
 use Rattle.ledger.proofs.Decisions.{every_call_decided}
 use Rattle.ledger.proofs.Steps.{Says}
 use Rattle.ledger.proofs.Given.{answers_given}
-use Rattle.ledger.proofs.Places.{refused_as, not_five, answered, exactly_refused, enough_granted, zero_refused, paths_granted, paths_past_five}
+use Rattle.ledger.proofs.Places.{refused_as, not_five, answered, exactly_refused, enough_granted, zero_refused, delay_granted, paths_granted, paths_past_five}
 use Rattle.ledger.proofs.Histories.{followed, ends_agree, at_every, Agreeing, struck_answers, struck_ends}
 
 -- ---- the first demand
 pub first_demand : FirstDemand
 first_demand = every_call_decided
 
-module _ (n : ℕ) (links : List ℕ) where
+module _ (input : LoadInput) where
   -- ---- an accepted load: the ledger opens in agreement with the area, so any two such areas agree
-  module _ (w : List ℕ) (accepted : load_answer w n links ≡ grants tt) where
-    opens : Agrees (station (area_loaded w n links)) (opened n links)
-    opens = agrees_eq (accepted_station w n links accepted)
+  module _ (w : List ℕ) (accepted : load_answer w input ≡ grants tt) where
+    opens : Agrees (station (area_loaded w input)) (opened input)
+    opens = agrees_eq (accepted_station w input accepted)
 
-    formed : WellFormed (area_loaded w n links)
-    formed = accepted_formed w n links accepted
+    formed : WellFormed (area_loaded w input)
+    formed = accepted_formed w input accepted
 
-    said : (cs : List Lending) → Throughout w n links cs Says
-    said cs = followed (area_loaded w n links) (opened n links) formed opens cs
+    said : (cs : List Lending) → Throughout w input cs Says
+    said cs = followed (area_loaded w input) (opened input) formed opens cs
 
     -- what follows from the ledger's word at one place holds throughout
     throughout : (P : Books → (q : Call ℕ) → ReplyTo q → Type 0) → ((o : Books) (q : Call ℕ) (a : ReplyTo q) → Says o q a → P o q a)
         → (cs : List Lending)
-        → Throughout w n links cs P
-    throughout P one cs = at_every P one (opened n links) (history (area_loaded w n links) cs) (said cs)
+        → Throughout w input cs P
+    throughout P one cs = at_every P one (opened input) (history (area_loaded w input) cs) (said cs)
 
-  agreeing : (w v : List ℕ) → load_answer w n links ≡ grants tt → load_answer v n links ≡ grants tt → Agreeing (area_loaded w n links) (area_loaded v n links)
+  agreeing : (w v : List ℕ) → load_answer w input ≡ grants tt → load_answer v input ≡ grants tt → Agreeing (area_loaded w input) (area_loaded v input)
   agreeing w v accepted accepted' =
       record {
         first = formed w accepted;
@@ -61,29 +62,33 @@ module _ (n : ℕ) (links : List ℕ) where
       }
 
   -- ---- the third demand, and the second at every place of a list
-  module _ (w : List ℕ) (accepted : load_answer w n links ≡ grants tt) (cs : List Lending) where
-    pub third_demand : ThirdDemand w n links cs
+  module _ (w : List ℕ) (accepted : load_answer w input ≡ grants tt) (cs : List Lending) where
+    pub third_demand : ThirdDemand w input cs
     third_demand =
         record {
           refusals = throughout w accepted _ refused_as cs;
           no_five = throughout w accepted _ not_five cs;
           exactly = throughout w accepted _ exactly_refused cs;
           granted = throughout w accepted _ answered cs;
-          answered = answers_given (area_loaded w n links) cs;
-          books = (ends_agree (area_loaded w n links) (opened n links) (formed w accepted) (opens w accepted) cs).held;
+          answered = answers_given (area_loaded w input) cs;
+          books = (ends_agree (area_loaded w input) (opened input) (formed w accepted) (opens w accepted) cs).held;
           enough = throughout w accepted _ enough_granted cs;
           struck = λ v accepted' ds s. (
-            struck_answers (area_loaded w n links) (area_loaded v n links) (agreeing w v accepted accepted') s,
-            (struck_ends (area_loaded w n links) (area_loaded v n links) (agreeing w v accepted accepted') s).held,
+            struck_answers (area_loaded w input) (area_loaded v input) (agreeing w v accepted accepted') s,
+            (struck_ends (area_loaded w input) (area_loaded v input) (agreeing w v accepted accepted') s).held,
           );
         }
 
     -- beside it: with a bound of 0 the heuristic is exact. Past its checks a request is refused exactly when no usable path
     -- meets both bounds.
-    pub zero_bounds : Throughout w n links cs (λ o q a. Passes (checks o q) → OfRequest (λ g r b. ZeroBound r → IsRefused b ↔ (Feasible g r → ⊥)) o q a)
+    pub zero_bounds : Throughout w input cs (λ o q a. Passes (checks o q) → OfRequest (λ g r b. ZeroBound r → IsRefused b ↔ (Feasible g r → ⊥)) o q a)
     zero_bounds = throughout w accepted _ zero_refused cs
 
-    pub second_demand : SecondDemand w n links cs
+    -- and the delay of a grant is its path's: its links' delays and the hold times of its inner nodes
+    pub path_delays : Throughout w input cs (AtRequest (λ o r a. (b : PathGrant) → a ≡ grants b → b.delay ≡ path_delay o.table b.path))
+    path_delays = throughout w accepted _ delay_granted cs
+
+    pub second_demand : SecondDemand w input cs
     second_demand = throughout w accepted _ paths_granted cs
 
 -- ---- the second demand on any words at all, loaded or not

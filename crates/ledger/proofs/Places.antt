@@ -8,7 +8,7 @@ use mathlib.Core.List.{List, [], ◌++◌}
 use mathlib.Core.Logic.{inl, inr, ◌↔◌}
 use Rattle.network.specs.Lists.{memb}
 use Rattle.network.specs.declared.Request.{Request}
-use Rattle.area.specs.Books.{Books, books}
+use Rattle.area.specs.Books.{Books, books, path_delay}
 use Rattle.area.specs.Refusals.{Rule, Passes, refuses, grants, IsRefused, IsGranted, Answered}
 use Rattle.area.proofs.Keeps.{unheld_stays}
 use Rattle.area.proofs.Refusals.{numbers_of, first_among, past, refused_exactly}
@@ -16,9 +16,10 @@ use Rattle.rules.specs.Requests.{RequestFits}
 use Rattle.rules.specs.Replies.{PathGrant, PathReply}
 use Rattle.rules.specs.Allowed.{Grant, request_rules, number_rules, search_rules}
 use Rattle.rules.specs.Meaning.{books_in, quote_rules, net_for}
+use Rattle.rules.proofs.Delays.{granted_delay}
 use Rattle.rules.proofs.Meaning.{request_past}
 use Rattle.ledger.specs.Entries.{Call, quoting, admitting, releasing, Granting, ReplyTo, told, Ledger, seen, checks, rules, Refuses, Grants, moved}
-use Rattle.ledger.specs.Sentences.{Solvable, Overqualifies, Feasible, ZeroBound, OfRequest}
+use Rattle.ledger.specs.Sentences.{Solvable, Overqualifies, Feasible, ZeroBound, AtRequest, OfRequest}
 use Rattle.ledger.specs.Demand.{GrantedPath, PathsGranted}
 use Rattle.ledger.proofs.Searches.{search_exactly, search_enough, zero_exactly, grant_path_granted}
 use Rattle.ledger.proofs.Steps.{Says}
@@ -84,6 +85,15 @@ zero_refused o (quoting work path r) a h n = λ zero.
 zero_refused o (admitting work path c r) a h n = λ zero.
     exactly o work path r (number_rules o c) n zero a (past (Grant (seen o r) r) (checks o (admitting work path c r)) (search_rules (seen o r) r) a n h)
 zero_refused o (releasing c) a h n = tt
+
+-- ---- a grant's delay
+pub delay_granted : (o : Books) (q : Call ℕ) (a : ReplyTo q) → Says o q a
+    → AtRequest (λ o r b. (g : PathGrant) → b ≡ grants g → g.delay ≡ path_delay o.table g.path) o q a
+delay_granted o (quoting work path r) a h = λ g e.
+    granted_delay o r g (subst (Answered (Grant (seen o r) r) (rules o (quoting work path r))) e h).1
+delay_granted o (admitting work path c r) a h = λ g e.
+    granted_delay o r g (subst (Answered (Grant (seen o r) r) (rules o (admitting work path c r))) e h).1
+delay_granted o (releasing c) a h = tt
 
 -- ---- granted paths
 -- by the rules of a request, whatever rules follow

@@ -11,7 +11,7 @@ use Rattle.search.specs.Result.{GrantedByOne, GrantedByTwo}
 use Rattle.area.specs.Books.{Books}
 use Rattle.area.specs.Order.{Same}
 use Rattle.area.specs.Refusals.{Passes, Reply, refuses, grants, IsRefused, IsGranted}
-use Rattle.area.specs.Load.{load_answer, area_loaded}
+use Rattle.area.specs.Load.{LoadInput, load_answer, area_loaded}
 use Rattle.area.specs.Reads.{list_answer, listed, free_answer}
 use Rattle.rules.specs.Replies.{PathGrant, PathReply, answer_of, path_after}
 use Rattle.rules.specs.Calls as calls
@@ -33,8 +33,8 @@ Decided numbers Kept a = IsGranted a ⊎ ((k : ℕ) × (memb k numbers ≡ true)
 -- words to read alone keeps them by its type: a quote, a listing and free units the area, the check of a class table and a class
 -- the table's rows.
 pub record FirstDemand : Type 0 where
-  pub load : (w : List ℕ) (n : ℕ) (links : List ℕ)
-      → Decided (1 ∷ 2 ∷ 3 ∷ 4 ∷ []) (area_loaded w n links ≡ w) (load_answer w n links)
+  pub load : (w : List ℕ) (input : LoadInput)
+      → Decided (1 ∷ 2 ∷ 3 ∷ 4 ∷ 22 ∷ []) (area_loaded w input ≡ w) (load_answer w input)
   pub quote : (w : List ℕ) (work : ℕ) (l : List ℕ) (r : Request)
       → let a = calls.quote w work (length l) r in
       Decided (5 ∷ 6 ∷ 7 ∷ 8 ∷ 9 ∷ 10 ∷ []) (path_after a l ≡ l) (answer_of a)
@@ -77,14 +77,14 @@ PathsGranted g r a = (b : PathGrant) → a ≡ grants b → GrantedPath g r b
 
 -- ---- the third demand
 -- "One theorem over EVERY list of admissions, releases and quotes from a freshly loaded area": from the area that Load
--- leaves of w, with n and the links, the calls cs run one after another, each lent any words.
-module _ (w : List ℕ) (n : ℕ) (links : List ℕ) (cs : List Lending) where
+-- leaves of w, with n, the links and the hold times, the calls cs run one after another, each lent any words.
+module _ (w : List ℕ) (input : LoadInput) (cs : List Lending) where
   abbrev start : List ℕ
-  start = area_loaded w n links
+  start = area_loaded w input
 
   -- P holds at every place of the list, beside a ledger that opens with the same numbers
   abbrev pub Throughout : (Books → (q : Call ℕ) → ReplyTo q → Type 0) → Type 0
-  Throughout P = AtEvery P (opened n links) (history start cs)
+  Throughout P = AtEvery P (opened input) (history start cs)
 
   -- the second demand at every place of the list
   abbrev pub SecondDemand : Type 0
@@ -102,11 +102,11 @@ module _ (w : List ℕ) (n : ℕ) (links : List ℕ) (cs : List Lending) where
     -- what each call answers is what its reply says: the numbers, with the path's delay, cost and l, and the path's words
     pub answered : answers start cs ≡ map (λ (e : Event). given_by e.call e.reply) (history start cs)
     -- "and book as the ledger says": after the list, and so after every call, the bookings are exactly the entries
-    pub books : Same (bookings (area_at_end start cs)) (at_end (opened n links) (history start cs)).held
+    pub books : Same (bookings (area_at_end start cs)) (at_end (opened input) (history start cs)).held
     -- "overqualified paths are always enough"
     pub enough : Throughout (λ o q a. Passes (checks o q) → OfRequest (λ g r b. Overqualifies g r → IsGranted b) o q a)
     -- "striking quotes changes no other answer nor the final bookings", from any area v loaded with the same numbers and
     -- whatever words the calls are lent
-    pub struck : (v : List ℕ) → load_answer v n links ≡ grants tt → (ds : List Lending) (s : Struck cs ds)
-        → (answers (area_loaded v n links) ds ≡ remaining s (answers start cs))
-        × Same (bookings (area_at_end (area_loaded v n links) ds)) (bookings (area_at_end start cs))
+    pub struck : (v : List ℕ) → load_answer v input ≡ grants tt → (ds : List Lending) (s : Struck cs ds)
+        → (answers (area_loaded v input) ds ≡ remaining s (answers start cs))
+        × Same (bookings (area_at_end (area_loaded v input) ds)) (bookings (area_at_end start cs))

@@ -9,7 +9,7 @@ use Rattle.network.specs.declared.Request.{Request}
 use Rattle.area.specs.Station.{Circuit, Station}
 use Rattle.area.specs.Books.{Books, net}
 use Rattle.area.specs.Moves.{with_circuit, without_number}
-use Rattle.area.specs.Load.{table_of}
+use Rattle.area.specs.Load.{LoadInput, table_of}
 use Rattle.area.specs.Refusals.{Rule, FirstApplies, Reply, refuses, grants}
 use Rattle.rules.specs.Replies.{PathGrant}
 use Rattle.rules.specs.Allowed.{Grant, request_rules, number_rules, search_rules, release_rules}
@@ -41,22 +41,22 @@ told (admitting work path c r) (grants g) = some g.path
 told (releasing c) a = none
 
 -- ---- what it holds
--- the table that was loaded, and entries of circuit number, units and path
+-- the table and the hold times that were loaded, and entries of circuit number, units and path
 abbrev pub Ledger : Type 0
 Ledger = Station
 
 -- at first it has no entries
-abbrev pub opened : ℕ → List ℕ → Ledger
-opened n links = record { table = table_of n links; held = [] }
+abbrev pub opened : LoadInput → Ledger
+opened input = record { table = table_of input; held = [] }
 
 -- What the rules ask of the entries is in their `books`, which the crate `area` defines: a link's free units are its
 -- capacity minus the units of all entries whose path uses it, and a number is held if an entry has it. The rules below
 -- are by these books.
 
--- the network that a request sees: a link is usable if its free units are at least the units asked for. Distance, x and
--- both problems are this network's.
+-- the network that a request sees: a link is usable if its free units are at least the units asked for, and its delay is with
+-- the hold time of the node that it enters, unless that is the target. Distance, x and both problems are this network's.
 abbrev pub seen : Books → Request → Net
-seen o r = net o r.terms.units
+seen o r = net o r
 
 -- ---- which answers it allows
 -- the rules before the search, in the order given for each call; the area is always well formed, so 5 is not among them

@@ -38,8 +38,12 @@ abbrev pub AtEvery : (Books → (q : Call ℕ) → ReplyTo q → Type 0) → Led
 AtEvery P l [] = Unit
 AtEvery P l (e ∷ es) = P (books l) e.call e.reply × AtEvery P (after l e) es
 
--- P holds where a call is a quote or an admission: of the network that its request sees, the request and the answer
+-- P holds where a call is a quote or an admission: of the ledger's books, the request and the answer
+abbrev pub AtRequest : (Books → Request → PathReply → Type 0) → Books → (q : Call ℕ) → ReplyTo q → Type 0
+AtRequest P o (quoting work path r) a = P o r a
+AtRequest P o (admitting work path c r) a = P o r a
+AtRequest P o (releasing c) a = Unit
+
+-- the same of the network that the request sees, the request and the answer
 abbrev pub OfRequest : (Net → Request → PathReply → Type 0) → Books → (q : Call ℕ) → ReplyTo q → Type 0
-OfRequest P o (quoting work path r) a = P (seen o r) r a
-OfRequest P o (admitting work path c r) a = P (seen o r) r a
-OfRequest P o (releasing c) a = Unit
+OfRequest P = AtRequest (λ o r a. P (seen o r) r a)

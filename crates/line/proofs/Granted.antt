@@ -23,7 +23,7 @@ use Rattle.area.specs.Held.{ListsHeld}
 use Rattle.area.specs.Formed.{WellFormed}
 use Rattle.area.specs.Refusals.{Rule, ◌when◌, FirstApplies, Reply, refuses, grants, Answered}
 use Rattle.area.specs.Checks.{Check, first_failing, unless_refused, checked}
-use Rattle.area.specs.Load.{load_checks, load_answer}
+use Rattle.area.specs.Load.{LoadInput, load_checks, load_answer}
 use Rattle.area.specs.Reads.{count_of, list_rules, ListMeans, free_checks, free_answer}
 use Rattle.rules.specs.ClassTable.{ClassTable}
 use Rattle.rules.specs.Classes.{table_rules, class_rules, CheckMeans, ClassMeans}
@@ -45,9 +45,9 @@ past_checks {A = A} cs a = go (first_failing cs)
     go zero e = refl
     go (suc k) e = absurd (omega (arith, e))
 
-pub load_granted : (w : List ℕ) (n : ℕ) (links : List ℕ) → code (load_answer w n links) ≡ 0 → load_answer w n links ≡ grants tt
+pub load_granted : (w : List ℕ) (input : LoadInput) → code (load_answer w input) ≡ 0 → load_answer w input ≡ grants tt
 unfolding load_answer
-load_granted w n links = past_checks (load_checks w n links) tt
+load_granted w input = past_checks (load_checks w input) tt
 
 pub free_granted : (w : List ℕ) (i : ℕ) → code (free_answer w i) ≡ 0 → free_answer w i ≡ grants (free (station w) i)
 unfolding free_answer

@@ -1,6 +1,6 @@
 // Load, listing and free units for C.
 ghost use Rattle.std.specs.Prelude.{◌≡◌, length};
-ghost use Rattle.area.specs.Load.{load_answer, area_loaded};
+ghost use Rattle.area.specs.Load.{input_of, load_answer, area_loaded};
 ghost use Rattle.area.specs.Reads.{list_answer, listed, free_answer};
 ghost use Rattle.line.specs.Codes.{code, words_after, value_words};
 ghost use Rattle.line.specs.Meaning.{ListTells};
@@ -9,13 +9,13 @@ use crate::told::{code, tell};
 use station::load::load;
 use station::reads;
 
-// 1, 2, 3 and 4; else 0, and n, m, 0 and the links are written.
+// 1, 2, 3, 4 and 22; else 0, and n, m, 0, the links and the hold times are written.
 #[unsafe(no_mangle)]
-pub extern "C" fn line_load(n: u32, links: &[u32], area: &mut [u32]) -> u32
-    ensures code { result ≡ code (load_answer area.old n links.now) }
-    ensures area { area.new ≡ area_loaded area.old n links.now }
+pub extern "C" fn line_load(n: u32, links: &[u32], hold_times: &[u32], area: &mut [u32]) -> u32
+    ensures code { result ≡ code (load_answer area.old (input_of n links.now hold_times.now)) }
+    ensures area { area.new ≡ area_loaded area.old (input_of n links.now hold_times.now) }
 {
-    code(load(n, links, area))
+    code(load(n, links, hold_times, area))
 }
 
 // 5 and 14; else 0, the held circuits' numbers in `numbers`, and how many they are in `answer`.

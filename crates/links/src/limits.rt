@@ -18,6 +18,7 @@ pub fn figures() -> Limits
         most_delay: limits::MOST_DELAY,
         most_cost: limits::MOST_COST,
         most_capacity: limits::MOST_CAPACITY,
+        most_hold: limits::MOST_HOLD,
         least_path_links: limits::LEAST_PATH_LINKS,
         most_path_links: limits::MOST_PATH_LINKS,
         least_units: limits::LEAST_UNITS,

@@ -2,7 +2,7 @@
 -- a number of these is changed here and in `network/src/limits.rt`, which has the same names for the code. The contract of
 -- `links::limits::figures` equates the two.
 -- Assumes nothing.
-use Rattle.std.specs.Prelude.{ℕ, cond, leb}
+use Rattle.std.specs.Prelude.{ℕ, ◌+◌, cond, leb}
 use Rattle.network.specs.declared.limits.Limits.{Limits}
 
 -- ---- networks
@@ -30,6 +30,10 @@ most_cost = 1000000
 abbrev pub most_capacity : ℕ
 most_capacity = 65535
 
+-- a node's hold time
+abbrev pub most_hold : ℕ
+most_hold = 1000000
+
 -- l, the number of links of a path: it passes no node twice
 abbrev pub least_path_links : ℕ
 least_path_links = 1
@@ -50,7 +54,7 @@ abbrev pub least_bound : ℕ
 least_bound = 0
 
 abbrev pub most_delay_bound : ℕ
-most_delay_bound = 31000000
+most_delay_bound = 61000000
 
 abbrev pub most_cost_bound : ℕ
 most_cost_bound = 31000000
@@ -72,12 +76,13 @@ work_words = 16384
 abbrev pub path_words : ℕ
 path_words = 31
 
--- ---- either of delay and cost, for what is said of both weights at once
+-- ---- either of delay and cost, for what is said of both weights at once. To a search a link's delay may include the hold
+-- time of the node that the link enters
 abbrev greater : ℕ → ℕ → ℕ
 greater a b = cond (leb a b) b a
 
 abbrev pub most_weight : ℕ
-most_weight = greater most_delay most_cost
+most_weight = greater (most_delay + most_hold) most_cost
 
 abbrev pub most_bound : ℕ
 most_bound = greater most_delay_bound most_cost_bound
@@ -93,6 +98,7 @@ figures =
       most_delay = most_delay;
       most_cost = most_cost;
       most_capacity = most_capacity;
+      most_hold = most_hold;
       least_path_links = least_path_links;
       most_path_links = most_path_links;
       least_units = least_units;

@@ -19,6 +19,9 @@ pub const MOST_COST: u32 = 1000000;
 
 pub const MOST_CAPACITY: u32 = 65535;
 
+// A node's hold time.
+pub const MOST_HOLD: u32 = 1000000;
+
 // l, the number of links of a path: it passes no node twice.
 pub const LEAST_PATH_LINKS: u32 = 1;
 
@@ -32,7 +35,7 @@ pub const MOST_UNITS: u32 = 65535;
 // The bounds D, of the delay, and C, of the cost.
 pub const LEAST_BOUND: u32 = 0;
 
-pub const MOST_DELAY_BOUND: u32 = 31000000;
+pub const MOST_DELAY_BOUND: u32 = 61000000;
 
 pub const MOST_COST_BOUND: u32 = 31000000;
 
@@ -58,6 +61,7 @@ pub struct Limits {
     pub most_delay: u32,
     pub most_cost: u32,
     pub most_capacity: u32,
+    pub most_hold: u32,
     pub least_path_links: u32,
     pub most_path_links: u32,
     pub least_units: u32,

@@ -31,12 +31,11 @@ impl Network<'_> {
             return w;
         }
         path[w.links] = i as u32;
-        let link = self.links.get(i);
         PartialPath {
-            node: link.to,
+            node: self.links.get(i).to,
             links: w.links + 1,
-            delay: w.delay + link.delay,
-            cost: w.cost + link.cost,
+            delay: w.delay + self.delays[i],
+            cost: w.cost + self.costs[i],
         }
     }
 

@@ -33,13 +33,15 @@ impl Network<'_> {
         ensures { Weighed (described self.now) (problem_by (described self.now) r x which) i result }
     {
         let link = self.links.get(i);
-        let other = by_problem(which, link.cost, link.delay);
+        let delay = self.delays[i];
+        let cost = self.costs[i];
+        let other = by_problem(which, cost, delay);
         let bound = by_problem(which, r.terms.cost_bound, r.terms.delay_bound);
         Hop {
             tail: link.from as u8,
             head: link.to as u8,
             usable: self.usable[i],
-            kept: by_problem(which, link.delay, link.cost),
+            kept: by_problem(which, delay, cost),
             step: scale(other, x as u32, bound),
         }
     }

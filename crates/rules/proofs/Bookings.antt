@@ -99,7 +99,7 @@ module _ (w : List ℕ) (work path c : ℕ) (r : Request) (g : PathGrant) (e : a
         units_most = admission_granted.request.terms.units_most;
         links_least = some_link p is_path;
         links_most = short;
-        path = (r.source, r.target, whole_path (books_in w) r.terms.units r.source r.target p is_path);
+        path = (r.source, r.target, whole_path (books_in w) r r.source r.target p is_path);
       }
 
   -- the links of the path have the units free

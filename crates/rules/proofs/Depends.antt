@@ -53,6 +53,6 @@ module _ (w w' : List ℕ) where
 
 -- ---- the search
 -- the granted path and its problem depend on n, which links are usable, the links' ends, delays and costs
-pub choice_depends : (o o' : Books) (r : Request) → Alike (net o r.terms.units) (net o' r.terms.units)
-    → outcome (net o r.terms.units) r ≡ outcome (net o' r.terms.units) r
-choice_depends o o' r alike = outcome_depends (net o r.terms.units) (net o' r.terms.units) alike r
+pub choice_depends : (o o' : Books) (r : Request) → Alike (net o r) (net o' r)
+    → outcome (net o r) r ≡ outcome (net o' r) r
+choice_depends o o' r alike = outcome_depends (net o r) (net o' r) alike r

@@ -12,6 +12,7 @@ use borrow.Author.Tests.{eqb-true}
 use Rattle.network.proofs.Tests.{zero_one}
 use Rattle.network.specs.Lists.{All}
 use Rattle.network.specs.Net.{Net, Walk, IsPath}
+use Rattle.network.specs.declared.Request.{Request}
 use Rattle.area.specs.Layout.{least_number, most_number}
 use Rattle.area.specs.Refusals.{refuses, grants}
 use Rattle.area.specs.Station.{Table, Circuit, head_of, station}
@@ -25,14 +26,14 @@ pub granted_not_refused : {A : Type 0} (b : A) (n : ℕ) → refuses n ≡ grant
 granted_not_refused b n e = zero_one cc
 
 -- ---- a usable path as a circuit's
-module _ (o : Books) (b : ℕ) where
+module _ (o : Books) (r : Request) where
   -- a usable path is a path of the table
-  whole_walk : (s t : ℕ) (p : List ℕ) → Walk (net o b) s t p → Walk (whole o.table) s t p
+  whole_walk : (s t : ℕ) (p : List ℕ) → Walk (net o r) s t p → Walk (whole o.table) s t p
   unfolding net whole
   whole_walk s t [] h = h
   whole_walk s t (i ∷ p) h = (h.0, refl, h.2, whole_walk (head_of o.table i) t p h.3)
 
-  pub whole_path : (s t : ℕ) (p : List ℕ) → IsPath (net o b) s t p → IsPath (whole o.table) s t p
+  pub whole_path : (s t : ℕ) (p : List ℕ) → IsPath (net o r) s t p → IsPath (whole o.table) s t p
   unfolding net whole
   whole_path s t p h = record { some = h.some; walk = whole_walk s t p h.walk; distinct = h.distinct }
 

@@ -2,6 +2,7 @@ pub mod Facts
 pub mod Meaning
 pub mod Bookings
 pub mod Depends
+pub mod Delays
 pub mod CallCases
 pub mod Granting
 pub mod RequestCases

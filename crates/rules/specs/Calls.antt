@@ -21,7 +21,7 @@ use Rattle.rules.specs.Meaning.{books_in, circuit_for}
 -- what the route search replies to a request, by the books alone
 unfoldable pub searched : Books → Request → PathReply
 unfolding net reply_of
-searched o r = reply_of (net o r.terms.units) (outcome (net o r.terms.units) r)
+searched o r = reply_of (net o r) (outcome (net o r) r)
 
 -- a circuit number that an admission takes: in its range and not held
 unfoldable pub number_fits : Books → ℕ → Bool

@@ -25,7 +25,7 @@ quote_rules w work path r = (5 when (WellFormed w → ⊥)) ∷ request_rules (b
 
 -- the network that a request sees on an area
 abbrev pub net_for : List ℕ → Request → Net
-net_for w r = net (books_in w) r.terms.units
+net_for w r = net (books_in w) r
 
 -- a quote's reply
 abbrev pub Quoted : List ℕ → ℕ → ℕ → Request → PathReply → Type 0

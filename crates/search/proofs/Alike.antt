@@ -3,13 +3,13 @@
 -- Assumes nothing.
 use mathlib.Core.Path.{◌≡◌, refl, ap, ◌∙◌}
 use mathlib.Core.Bool.{or-true}
-use mathlib.Core.List.{List}
+use mathlib.Core.List.{List, [], ◌∷◌}
 use Prim.Native.Nat.{ℕ, zero, suc, ◌<◌}
 use lib.ListN.{get_or}
 use borrow.Author.Tests.{le-leb}
 use Rattle.network.specs.declared.Request.{Request}
 use Rattle.network.specs.Loops.{iter, first}
-use Rattle.network.specs.Net.{Net}
+use Rattle.network.specs.Net.{Net, Walk, sum}
 use Rattle.network.specs.NodeSet.{member, inserted}
 use Rattle.network.specs.Scale.{scaled}
 use Rattle.network.specs.Cut.{follow}
@@ -57,6 +57,13 @@ module _ (g o : Net) (same : SameEdges g o) where
       by_lt i g.links
       (λ low. cc (same.head i low, follow_depends next t f (g.head i)))
       (λ high. simp (le-leb g.links i high, le-leb o.links i (rw same.links at high), or-true))
+
+-- ---- the sums of a walk's links, which are links of both
+pub sums_depend : (g o : Net) → Alike g o → (s t : ℕ) (p : List ℕ) → Walk g s t p → (sum g.delay p ≡ sum o.delay p) × (sum g.cost p ≡ sum o.cost p)
+sums_depend g o same s t [] walk = (refl, refl)
+sums_depend g o same s t (i ∷ p) walk =
+    let rest = sums_depend g o same (g.head i) t p walk.3 in
+    (rw (same.delay i walk.0, rest.0) refl, rw (same.cost i walk.0, rest.1) refl)
 
 -- ---- the two problems
 module _ (g o : Net) (same : Alike g o) (r : Request) (x : ℕ) where

@@ -117,11 +117,15 @@ module _ (g : Net) (r : Request) (path : List ℕ) where
       (λ high. absurd (zero_one (cc (le-ltb far g.nodes high))))
 
 -- ---- a network and a request in their ranges give a reduced problem in its ranges
-module _ (n m : ℕ) (words : List ℕ) (usable : List Bool) (r : Request) (x : ℕ) (which : Reduction) (hops : List Hop) where
-  abbrev listed : Type 0
-  listed = (i : ℕ) → i < m → Weighed (net_of n m words usable) (problem_by (net_of n m words usable) r x which) i (nth_hop hops i)
+module _ (n m : ℕ) (words : List ℕ) (usable : List Bool) (delays costs : List ℕ) (r : Request) (x : ℕ) (which : Reduction)
+    (hops : List Hop) where
+  abbrev g : Net
+  g = net_of n m words usable delays costs
 
-  pub weighed_fits : LinkTable n m words → TermsInRange r → x ≤ most_x → length hops ≡ m → listed → (bound : ℕ) → bound ≡ kept_bound r which → HopsFit n x bound hops
+  abbrev listed : Type 0
+  listed = (i : ℕ) → i < m → Weighed g (problem_by g r x which) i (nth_hop hops i)
+
+  pub weighed_fits : LinkTable n m words delays costs → TermsInRange r → x ≤ most_x → length hops ≡ m → listed → (bound : ℕ) → bound ≡ kept_bound r which → HopsFit n x bound hops
   unfolding net_of problem_by
   weighed_fits table terms small long each bound is =
       record {
@@ -130,8 +134,8 @@ module _ (n m : ℕ) (words : List ℕ) (usable : List Bool) (r : Request) (x : 
         links_most = rw long table.links_most;
         x_most = small;
         bound_most = rw is (kept_bound_most which);
-        tail = λ i below. let low : i < m = omega (arith, long, below) in omega (arith, (each i low).tail, table.words.from i low);
-        head = λ i below. let low : i < m = omega (arith, long, below) in omega (arith, (each i low).head, table.words.to i low);
+        tail = λ i below. let low : i < m = omega (arith, long, below) in omega (arith, (each i low).tail, table.from i low);
+        head = λ i below. let low : i < m = omega (arith, long, below) in omega (arith, (each i low).head, table.to i low);
         kept = λ i below. let low : i < m = omega (arith, long, below) in rw (sym (each i low).kept) (kept_light i low which);
       }
     where
@@ -139,12 +143,12 @@ module _ (n m : ℕ) (words : List ℕ) (usable : List Bool) (r : Request) (x : 
       kept_bound_most One = omega (arith, terms.delay_most)
       kept_bound_most Two = omega (arith, terms.cost_most)
 
-      kept_light : (i : ℕ) → i < m → (which : Reduction) → kept_weight (net_of n m words usable) which i ≤ most_weight
-      kept_light i low One = omega (arith, table.words.delay i low)
-      kept_light i low Two = omega (arith, table.words.cost i low)
+      kept_light : (i : ℕ) → i < m → (which : Reduction) → kept_weight g which i ≤ most_weight
+      kept_light i low One = omega (arith, table.delay i low)
+      kept_light i low Two = omega (arith, table.cost i low)
 
   pub weighed_reduces : (p : Reduced) → p.nodes ≡ n → length p.hops.now ≡ m → p.x ≡ x → p.bound ≡ kept_bound r which → p.hops.now ≡ hops → listed
-      → Reduces (net_of n m words usable) (problem_by (net_of n m words usable) r x which) p
+      → Reduces g (problem_by g r x which) p
   unfolding net_of problem_by net_in problem_of
   weighed_reduces p nodes links reach bound same each =
       record {

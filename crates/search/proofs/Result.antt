@@ -3,12 +3,12 @@
 -- its reason holds.
 -- Assumes nothing.
 use Prim.Native.Nat.{ℕ}
-use mathlib.Core.Path.{◌≡◌, refl}
+use mathlib.Core.Path.{◌≡◌, refl, ap, ◌∙◌}
 use mathlib.Core.Bool.{Bool}
 use mathlib.Core.List.{List}
 use mathlib.Core.Logic.{◌⊎◌, inl, inr}
 use Rattle.network.proofs.Tests.{zero_one}
-use Rattle.network.specs.Net.{Net}
+use Rattle.network.specs.Net.{Net, Walk, sum}
 use Rattle.network.specs.Words.{net_of, LinkTable}
 use Rattle.network.specs.declared.Request.{Request}
 use Rattle.network.specs.declared.answer.Reduction.{Reduction}
@@ -16,6 +16,7 @@ use Rattle.network.specs.declared.answer.Reduction.TheVariants.{One, Two}
 use Rattle.network.specs.Problem.{NoPath}
 use Rattle.network.specs.Reduce.{Outcome, no_path, no_solution, granted, Found}
 use Rattle.network.proofs.Bounds.{one_distance, found_within, found_enough}
+use Rattle.search.proofs.Alike.{sums_depend}
 use Rattle.search.proofs.Heuristic.{search_finds, search_depends}
 use Rattle.search.specs.Result.{Ready, Searchable, outcome, Unsolved, GrantedByOne, GrantedByTwo, Result, Alike}
 use Rattle.search.proofs.ebf.Outcomes.{net_ends}
@@ -88,14 +89,28 @@ pub outcome_depends : (g o : Net) → Alike g o → (r : Request) → outcome g 
 unfolding outcome
 outcome_depends = search_depends
 
+-- and so do a granted path's totals: it is a path, so its links are links of both networks
+module _ (g o : Net) (same : Alike g o) (r : Request) (ok : Searchable g r) where
+  granted_walk : (a : Outcome) → Result g r a → (which : Reduction) (p : List ℕ) → a ≡ granted which p → Walk g r.source r.target p
+  granted_walk a h which p e = by (h.no_other which p e)
+    where
+      by : (which ≡ One) ⊎ (which ≡ Two) → Walk g r.source r.target p
+      by (inl one) = (h.by_one p (e ∙ ap (λ (k : Reduction). granted k p) one)).2.solves.path.walk
+      by (inr two) = (h.by_two p (e ∙ ap (λ (k : Reduction). granted k p) two)).3.solves.path.walk
+
+  pub totals_depend : (which : Reduction) (p : List ℕ) → outcome g r ≡ granted which p
+      → (sum g.delay p ≡ sum o.delay p) × (sum g.cost p ≡ sum o.cost p)
+  totals_depend which p e = sums_depend g o same r.source r.target p (granted_walk (outcome g r) (outcome_found g r ok) which p e)
+
 -- what the code's `requires` asks of a link table is enough for it
-pub ready_searchable : (n m : ℕ) (links : List ℕ) (usable : List Bool) (work path : List ℕ) (r : Request) → LinkTable n m links
+pub ready_searchable : (n m : ℕ) (links : List ℕ) (usable : List Bool) (delays costs work path : List ℕ) (r : Request)
+    → LinkTable n m links delays costs
     → Ready n work path r
-    → Searchable (net_of n m links usable) r
+    → Searchable (net_of n m links usable delays costs) r
 unfolding net_of
-ready_searchable n m links usable work path r table h =
+ready_searchable n m links usable delays costs work path r table h =
     record {
-      ends = net_ends n m links usable table;
+      ends = net_ends n m links usable delays costs table;
       few = table.nodes_most;
       source = h.source;
       target = h.target;

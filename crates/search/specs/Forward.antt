@@ -1,7 +1,7 @@
 -- The pass from s to t along the links that a trace noted: the path's words and its own sums. It knows no table.
 -- Assumes nothing.
 use Rattle.std.specs.Prelude.{ℕ, ◌+◌, ◌*◌, ◌-◌, ◌≤◌, ◌<◌, cond, ◌||◌, List, eqb, leb, get_or, set}
-use Rattle.network.specs.Limits.{most_cost, most_delay}
+use Rattle.network.specs.Limits.{most_weight}
 use Rattle.network.specs.Loops.{iter}
 use Rattle.network.specs.Net.{Net}
 use Rattle.network.specs.declared.Grant.{Grant}
@@ -31,8 +31,8 @@ forwarded g next s t path = iter (λ _. advanced g next t) (g.nodes - 1) (path_s
 pub record OnWay (n k : ℕ) (w : PartialPath) : Type 0 where
   pub node : w.node < n
   pub links : w.links ≤ k
-  pub delay : w.delay ≤ most_delay * w.links
-  pub cost : w.cost ≤ most_cost * w.links
+  pub delay : w.delay ≤ most_weight * w.links
+  pub cost : w.cost ≤ most_weight * w.links
 
 -- a grant of the problem `which`, from the pass along its path
 abbrev pub grant_of : Reduction → PartialPath → Grant

@@ -1,6 +1,5 @@
 // A well-formed area. Reading one is the check with which every call on a loaded area begins; it takes any words.
-ghost use Rattle.std.specs.Prelude.{◌≡◌, true, false, ℕ, ◌<◌, get_or, leb, is_ok, is_some, IfOk, IfErr, IfSome};
-ghost use Rattle.network.specs.Limits.{most_links};
+ghost use Rattle.std.specs.Prelude.{◌≡◌, true, ℕ, get_or, is_ok, is_some, IfOk, IfErr, IfSome};
 ghost use Rattle.area.specs.declared.refusal.Refusal.TheVariants.{NotWellFormed};
 ghost use Rattle.area.specs.Station.{nodes_in, links_in, held_in, table_in};
 ghost use Rattle.area.specs.Formed.{well_formed};
@@ -91,12 +90,5 @@ impl<'a> Station<'a> {
         ensures { FoundAt self.now.area.now (held_in self.now.area.now) number result }
     {
         self.places().find(number)
-    }
-
-    // Which links are usable for a request of so many units: those of which at least these are free.
-    pub fn usable(&self, units: u32) -> [bool; MOST_LINKS]
-        ensures { (i : ℕ) → i < most_links → get_or result i false ≡ leb units (free_in self.now.area.now i) }
-    {
-        std::array::from_fn(|i| units <= self.free[i])
     }
 }

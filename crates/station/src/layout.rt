@@ -16,7 +16,7 @@ pub const LINKS: usize = 1;
 pub const HELD: usize = 2;
 
 // The words of an area, at least.
-pub const AREA_WORDS: usize = 3459;
+pub const AREA_WORDS: usize = 3491;
 
 // Where the links begin, and the words of a full table.
 pub const FIRST_LINK: usize = 3;
@@ -29,6 +29,9 @@ pub const FIRST_CIRCUIT: usize = 1283;
 pub const CIRCUIT_WORDS: usize = 34;
 
 pub const MOST_CIRCUITS: usize = 64;
+
+// Where the hold times begin, one word for each node that an area may have.
+pub const FIRST_HOLD: usize = 3459;
 
 // A circuit's number.
 pub const LEAST_NUMBER: u32 = 1;
@@ -47,6 +50,7 @@ pub fn figures() -> Layout
         first_circuit: FIRST_CIRCUIT,
         circuit_words: CIRCUIT_WORDS,
         most_circuits: MOST_CIRCUITS,
+        first_hold: FIRST_HOLD,
         least_number: LEAST_NUMBER,
         most_number: MOST_NUMBER,
     }

@@ -6,6 +6,7 @@
 #![tactic(auto)]
 
 mod circuits;
+mod columns;
 mod formed;
 pub mod layout;
 pub mod load;

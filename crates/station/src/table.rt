@@ -1,22 +1,23 @@
-// A link table and its ranges, for loading and for the reading of an area.
+// A link table, the hold times and their ranges, for loading and for the reading of an area.
 ghost use Rattle.std.specs.Prelude.{◌≡◌, ℕ, ◌<◌, ◌≤◌, length, is_some, IfSome};
 ghost use Rattle.network.specs.Limits.{most_links, most_nodes};
 ghost use Rattle.network.specs.Words.{field};
 ghost use Rattle.area.specs.Layout.{area_words};
-ghost use Rattle.area.specs.Station.{links_in, table_in};
-ghost use Rattle.area.specs.Formed.{link_fits, links_fit, table_fits};
+ghost use Rattle.area.specs.Station.{nodes_in, links_in, table_in};
+ghost use Rattle.area.specs.Formed.{link_fits, links_fit, hold_times_fit, table_fits};
 
 use crate::layout;
 use links::link::Links;
 use network::limits::{
-    LEAST_NODES, LINK_WORDS, MOST_CAPACITY, MOST_COST, MOST_DELAY, MOST_LINKS, MOST_NODES,
+    LEAST_NODES, LINK_WORDS, MOST_CAPACITY, MOST_COST, MOST_DELAY, MOST_HOLD, MOST_LINKS,
+    MOST_NODES,
 };
 
 // Whether link `i` has both ends among `n` nodes and apart, and its weights and its capacity in range.
 #[tactic(auto, unfolding(area::specs::Formed::link_fits))]
 fn link_fits(n: usize, links: &Links<'_>, i: usize) -> bool
     requires { i < links.now.count }
-    ensures { result ≡ link_fits (record { nodes = n; links = links.now.count; words = links.now.words.now }) i }
+    ensures { result ≡ link_fits n links.now.words.now i }
 {
     let link = links.get(i);
     link.from < n
@@ -29,9 +30,16 @@ fn link_fits(n: usize, links: &Links<'_>, i: usize) -> bool
 
 // Whether every link fits `n` nodes.
 pub fn links_fit(n: usize, links: &Links<'_>) -> bool
-    ensures { result ≡ links_fit (record { nodes = n; links = links.now.count; words = links.now.words.now }) }
+    ensures { result ≡ links_fit n links.now.count links.now.words.now }
 {
     (0..links.count).all(|i| link_fits(n, links, i))
+}
+
+// Whether each of `n` nodes has a hold time, in its range.
+pub fn hold_times_fit(n: usize, hold_times: &[u32]) -> bool
+    ensures { result ≡ hold_times_fit n hold_times.now }
+{
+    hold_times.len() == n && hold_times.iter().all(|hold| *hold <= MOST_HOLD)
 }
 
 // The links of an area that is long enough and counts no more of them than a table has: `Table::read` tests the count, and a
@@ -47,6 +55,15 @@ pub fn links_in(area: &[u32]) -> Links<'_>
         words: layout::part(area, layout::FIRST_LINK, LINK_WORDS * count),
         count,
     }
+}
+
+// The hold times of an area that is long enough and has no more nodes than a table has.
+pub fn hold_times_in(area: &[u32]) -> &[u32]
+    requires long { area_words ≤ length area.now }
+    requires few { nodes_in area.now ≤ most_nodes }
+    ensures { result.now ≡ (table_in area.now).hold_times }
+{
+    layout::part(area, layout::FIRST_HOLD, area[layout::NODES] as usize)
 }
 
 // The links of a table. The ends of each are below the most nodes that a table has.
@@ -73,6 +90,9 @@ impl<'a> Table<'a> {
         }
         let links = links_in(area);
         if !links_fit(nodes as usize, &links) {
+            return None;
+        }
+        if !hold_times_fit(nodes as usize, hold_times_in(area)) {
             return None;
         }
         Some(Table { links })

@@ -18,7 +18,7 @@ use booking::calls;
 use booking::quote::quote;
 use cases::Asked::{Admission, Quote};
 use cases::Ground::{AfterM8, OnA, OnB, OnNone};
-use cases::{Asked, Ground, NET_A, NET_B, Row, asking};
+use cases::{Asked, Ground, NET_A, NET_B, NONE_HELD, Row, asking};
 use network::Grant;
 use network::limits::{PATH_WORDS, WORK_WORDS};
 use station::layout::AREA_WORDS;
@@ -112,7 +112,7 @@ fn prepare(area: &mut [u32; AREA_WORDS], work: &mut [u32; WORK_WORDS], ground: G
     ensures formed { WellFormed area.new }
     ensures station { station area.new ≡ station (area_in ground) }
 {
-    let _ = load(4, net(ground), area);
+    let _ = load(4, net(ground), &NONE_HELD, area);
     match ground {
         AfterM8 => admit_m8(area, work),
         OnA | OnNone | OnB => {}

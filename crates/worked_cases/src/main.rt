@@ -20,7 +20,7 @@ use area::Refusal;
 use arrayvec::ArrayVec;
 use booking::calls;
 use cases::Asked::{Admission, Quote};
-use cases::{Asked, NET_A, NET_B, asking};
+use cases::{Asked, NET_A, NET_B, NONE_HELD, asking};
 use network::Request;
 use network::limits::WORK_WORDS;
 use station::layout::AREA_WORDS;
@@ -65,10 +65,10 @@ fn write_told<T: Granted<23>>(rt: &impl Print, name: &[u8], answer: Result<T, Re
     write(rt, &text);
 }
 
-// Loads a link table into the area.
-fn load_net(rt: &impl Print, n: u32, links: &[u32], area: &mut [u32]) {
+// Loads a link table and hold times into the area.
+fn load_net(rt: &impl Print, n: u32, links: &[u32], hold_times: &[u32], area: &mut [u32]) {
     let mut text = ArrayVec::<u8, 13>::new();
-    answer_lines::put_loading(&mut text, load(n, links, area));
+    answer_lines::put_loading(&mut text, load(n, links, hold_times, area));
     write(rt, &text);
 }
 
@@ -115,7 +115,7 @@ fn releases(rt: &impl Print, area: &mut [u32]) {
 
 // The admission of M8 with circuit number 7, on net A.
 fn one_circuit(rt: &impl Print, area: &mut [u32], work: &mut [u32; WORK_WORDS]) {
-    load_net(rt, 4, &NET_A, area);
+    load_net(rt, 4, &NET_A, &NONE_HELD, area);
     write_call(rt, b"admission", area, work, Admission(7, request(4)));
     one_held(rt, area);
     releases(rt, area);
@@ -128,12 +128,13 @@ fn capacities(rt: &impl Print, area: &[u32]) {
     }
 }
 
-// No links, net B with its capacities, and a load with too few nodes.
+// No links, net B with its capacities, a load with too few nodes, and one with too few hold times.
 fn loads(rt: &impl Print, area: &mut [u32]) {
-    load_net(rt, 4, &[], area);
-    load_net(rt, 4, &NET_B, area);
+    load_net(rt, 4, &[], &NONE_HELD, area);
+    load_net(rt, 4, &NET_B, &NONE_HELD, area);
     capacities(rt, area);
-    load_net(rt, 1, &NET_B, area);
+    load_net(rt, 1, &NET_B, &NONE_HELD, area);
+    load_net(rt, 4, &NET_B, &NONE_HELD[1..], area);
 }
 
 // The calls that no case makes: at first a quote on an area that nothing was loaded into.

@@ -4,7 +4,7 @@
 //! held go from end to end, so each has 31 links.
 
 use crate::nets;
-use crate::proved::Proved;
+use crate::proved::{Proved, NO_HOLDS};
 use crate::requests;
 use crate::timing::{median, REPETITIONS};
 use std::time::Instant;
@@ -100,7 +100,7 @@ pub fn worst() -> Result<(), String> {
     println!("Microseconds for each call at its largest or slowest input: median of {REPETITIONS} repetitions.");
     println!("{NODES} nodes in a row, {LINKS} links; each circuit that is held has {} links.", NODES - 1);
     println!("{:<20}  {:<53}{:>10}", "call", "input", "proved");
-    row("line_load", "256 links", (QUICK, 0), &full, |area, _| line::load(NODES, &words, area))?;
+    row("line_load", "256 links", (QUICK, 0), &full, |area, _| line::load(NODES, &words, &NO_HOLDS, area))?;
     searches(&mut proved, &full)?;
     bookings(&full)?;
     let rows: Vec<u32> = [1, 400, 60, 8].repeat(64);

@@ -19,6 +19,7 @@ pub struct Job {
 }
 
 impl Job {
+    /// A job without circuits, and without hold times, which the plain network does not know.
     pub fn new(n: u32, words: &[u32], request: Request) -> Result<Job, String> {
         let area = Proved::load(n, words).map_err(|refusal| format!("a net was not loaded: {refusal}"))?;
         Ok(Job { request, area, network: Network::new(n, words) })

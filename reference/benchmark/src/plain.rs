@@ -4,8 +4,8 @@
 //! It is meant to be as fast as the paper's lines are when written down with care. The usable links stand in a list of
 //! their own with both weights beside their ends, so the innermost loop has lines 6 to 10 and nothing else; infinity is
 //! a number so large that line 8 needs no case for it; the tables are kept from call to call. Free units are kept with
-//! the links and no words are checked. The paper's lines do not stop at the kept bound, so neither does this search;
-//! the proved one does, since there infinity is the bound + 1.
+//! the links and no words are checked. It knows no hold times and is measured where all are 0. The paper's lines do not
+//! stop at the kept bound, so neither does this search; the proved one does, since there infinity is the bound + 1.
 
 mod network;
 

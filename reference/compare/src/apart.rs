@@ -4,8 +4,9 @@ use crate::buffer::Lent;
 use crate::memory::Memory;
 use crate::station::{refused, Answer, Checked};
 use crate::tally::Tally;
+use document01::area::{AREA_WORDS, FIRST_HOLD};
 use document01::judge::require;
-use document01::{area, classes, link_file, Rules, Table};
+use document01::{classes, link_file, Rules, Table};
 
 pub fn check_classes(rows: &[u32], rules: Rules, memory: &mut Memory, tally: &mut Tally) -> Checked {
     memory.lend_answer(0);
@@ -47,23 +48,27 @@ pub fn sample_classes(memory: &mut Memory, tally: &mut Tally) -> Checked {
 }
 
 /// Load, on an area of its own, which is left in the memory.
-pub fn load(n: u32, words: &[u32], lent: Lent, memory: &mut Memory, tally: &mut Tally) -> Checked {
+pub fn load(n: u32, words: &[u32], hold_times: &[u32], lent: Lent, memory: &mut Memory, tally: &mut Tally) -> Checked {
     memory.lend_out(lent, 0);
     memory.lend_read(words);
-    let code = line::load(n, memory.read.slice(), memory.out.slice_mut());
-    let expected = if lent.words < area::AREA_WORDS { Err(1) } else { Table::checked(n, words) };
+    memory.lend_hold_times(hold_times);
+    let code = line::load(n, memory.read.slice(), memory.hold_times.slice(), memory.out.slice_mut());
+    let expected = if lent.words < AREA_WORDS { Err(1) } else { Table::checked(n, words, hold_times) };
     match expected {
         Err(number) => drop(refused(code, number, memory)?),
         Ok(table) => {
             require(code == 0, &format!("gave {code}, expected to be loaded"))?;
-            let area = memory.out.slice();
+            let (area, past, end) = (memory.out.slice(), 3 + words.len(), FIRST_HOLD + hold_times.len());
             require(area[..3] == [n, table.links.len() as u32, 0], "n, m and 0 were not written")?;
-            require(area[3..3 + words.len()] == *words, "the links were not written")?;
-            require(memory.out.same_from(3 + words.len()), "a word past the links changed")?;
+            require(area[3..past] == *words, "the links were not written")?;
+            require(memory.out.same_between(past, FIRST_HOLD), "a word past the links changed")?;
+            require(area[FIRST_HOLD..end] == *hold_times, "the hold times were not written")?;
+            require(memory.out.same_from(end), "a word past the hold times changed")?;
         }
     }
     memory.guarded()?;
     tally.saw("load", code);
+    tally.holds.loaded(n, hold_times, code);
     Ok(Answer::default())
 }
 

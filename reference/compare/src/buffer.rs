@@ -109,6 +109,11 @@ impl Buffer {
         self.slice()[from..] == self.before[from..]
     }
 
+    /// Whether the words from `from` on, up to but without `to`, are those that were marked.
+    pub fn same_between(&self, from: usize, to: usize) -> bool {
+        self.slice()[from..to] == self.before[from..to]
+    }
+
     pub fn guards_stand(&self) -> bool {
         let behind = self.words.len() - GUARD;
         (0..GUARD).all(|at| self.words[at] == guard(at) && self.words[behind + at] == guard(behind + at))

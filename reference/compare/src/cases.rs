@@ -1,13 +1,16 @@
-//! A case: a link table and a list of calls, both from one seed. Each call has all its own numbers, so that leaving out
-//! a call leaves the others as they are.
+//! A case: a link table with hold times and a list of calls, both from one seed. Each call has all its own numbers, so
+//! that leaving out a call leaves the others as they are.
 
 use crate::buffer::{Holds, Lent};
 use crate::class_tables;
 use crate::damage::{damage, Damage};
 use crate::files;
+use crate::hold_times;
 use crate::nets::{net, style, Net, Style};
 use crate::requests::{circuit, request};
 use crate::sweep;
+use document01::area::AREA_WORDS;
+use document01::table::MOST_DELAY_BOUND;
 use line::Request;
 use seeded::Random;
 
@@ -45,11 +48,18 @@ pub enum Call {
     Load {
         n: u32,
         words: Vec<u32>,
+        hold_times: Vec<u32>,
         area: Lent,
     },
     ReadLinkFile {
         file: Vec<u8>,
         table: Lent,
+    },
+    /// A quote, and again on a copy of the area without hold times whose links take as long.
+    Folded {
+        request: Request,
+        work: Lent,
+        path: Lent,
     },
     /// The call on a damaged copy of the area.
     Damaged {
@@ -64,6 +74,7 @@ pub struct Case {
     pub style: Style,
     pub n: u32,
     pub words: Vec<u32>,
+    pub hold_times: Vec<u32>,
     pub area: Lent,
     pub calls: Vec<Call>,
 }
@@ -100,8 +111,10 @@ fn load(rng: &mut Random, net: &Net) -> Call {
         }
         _ => {}
     }
-    let length = if rng.one_in(3) { rng.pick(&[0, 1, 3_457, 3_458, 3_460, 3_461]) } else { 3_459 };
-    Call::Load { n, words, area: Lent { words: length, holds: Holds::Random(rng.double_word()) } }
+    let hold_times = hold_times::list(rng, n, &net.hold_times);
+    let lengths = [0, 1, 3_458, 3_459, 3_460, 3_489, 3_490, 3_492, 3_493];
+    let length = if rng.one_in(3) { rng.pick(&lengths) } else { AREA_WORDS };
+    Call::Load { n, words, hold_times, area: Lent { words: length, holds: Holds::Random(rng.double_word()) } }
 }
 
 fn list(rng: &mut Random) -> Call {
@@ -137,9 +150,10 @@ fn call(rng: &mut Random, net: &Net, pool: u32) -> Call {
         1 => read_link_file(rng, net),
         2 => class_tables::call(rng),
         3..=8 => {
-            let damage = damage(rng, net.words.len() as u32 / 5);
+            let damage = damage(rng, net.n, net.words.len() as u32 / 5);
             Call::Damaged { damage, call: Box::new(on_area(rng, net, pool)) }
         }
+        9..=11 => Call::Folded { request: request(rng, net), work: lent(rng, 16_384), path: lent(rng, 31) },
         _ => on_area(rng, net, pool),
     }
 }
@@ -147,7 +161,7 @@ fn call(rng: &mut Random, net: &Net, pool: u32) -> Call {
 /// More admissions than there is place for.
 fn filling(rng: &mut Random, net: &Net) -> Vec<Call> {
     let admit = |rng: &mut Random, circuit| {
-        let request = Request { units: 1, delay_bound: 1_000, cost_bound: 1_000, ..request(rng, net) };
+        let request = Request { units: 1, delay_bound: MOST_DELAY_BOUND, cost_bound: 1_000, ..request(rng, net) };
         Call::Admit { circuit, request, work: lent(rng, 16_384), path: lent(rng, 31) }
     };
     (1..=90).map(|circuit| admit(rng, circuit)).collect()
@@ -165,6 +179,8 @@ pub fn case(seed: u64) -> Case {
     let pool = if style == Style::Roomy { 90 } else { rng.pick(&[2, 4, 12]) };
     let mut calls = if style == Style::Roomy { filling(&mut rng, &net) } else { Vec::new() };
     calls.extend((0..count).map(|_| call(&mut rng, &net, pool)));
-    let area = Lent { words: 3_459 + rng.pick(&[0, 0, 1, 7]), holds: Holds::Random(rng.double_word()) };
-    Case { seed, style, n: net.n, words: net.words, area, calls }
+    // With zeros the hold words past n are in range, where a damaged n takes them in.
+    let holds = if rng.one_in(3) { Holds::Zeros } else { Holds::Random(rng.double_word()) };
+    let area = Lent { words: AREA_WORDS + rng.pick(&[0, 0, 1, 7]), holds };
+    Case { seed, style, n: net.n, words: net.words, hold_times: net.hold_times, area, calls }
 }

@@ -4,7 +4,7 @@ use crate::cases::Call;
 use seeded::Random;
 
 /// The least and the greatest of units, D, C and coefficient.
-pub const RANGES: [(u32, u32); 4] = [(1, 65_535), (0, 31_000_000), (0, 31_000_000), (1, 8)];
+pub const RANGES: [(u32, u32); 4] = [(1, 65_535), (0, 61_000_000), (0, 31_000_000), (1, 8)];
 
 /// Word counts on both sides of every limit.
 pub const COUNTS: [usize; 13] = [0, 1, 2, 3, 4, 5, 7, 8, 252, 255, 256, 257, 260];

@@ -1,9 +1,11 @@
 //! Areas with one word changed or too few words.
 
-use document01::area::{CIRCUIT_WORDS, FIRST_CIRCUIT};
+use document01::area::{AREA_WORDS, CIRCUIT_WORDS, FIRST_CIRCUIT, FIRST_HOLD};
+use document01::table::MOST_NODES;
 use seeded::Random;
 
-/// What is changed. `Unused` are words of the last circuit's place, which no rule reads unless 64 are held.
+/// What is changed. `Unused` are words of the last circuit's place, which no rule reads unless 64 are held; `PastHolds`
+/// are hold words of nodes that are not there, which no rule reads.
 #[derive(Clone, Copy, Debug, PartialEq, Eq, PartialOrd, Ord)]
 pub enum Field {
     Nodes,
@@ -20,9 +22,11 @@ pub enum Field {
     PathWord,
     Length,
     Unused,
+    Hold,
+    PastHolds,
 }
 
-pub const FIELDS: [Field; 14] = [
+pub const FIELDS: [Field; 16] = [
     Field::Nodes,
     Field::Links,
     Field::Held,
@@ -37,6 +41,8 @@ pub const FIELDS: [Field; 14] = [
     Field::PathWord,
     Field::Length,
     Field::Unused,
+    Field::Hold,
+    Field::PastHolds,
 ];
 
 #[derive(Clone, Copy, Debug)]
@@ -60,8 +66,11 @@ pub struct Damage {
 pub const EDGES: [u32; 16] =
     [0, 1, 2, 31, 32, 33, 64, 65, 255, 256, 257, 65_535, 65_536, 1_000_000, 1_000_001, u32::MAX];
 
-/// Where a field stands in link `i` and circuit `j`; `k` is a place in its path.
-fn place(field: Field, i: usize, j: usize, k: usize) -> usize {
+/// Lengths of an area around those at which its links, its circuits and its hold times end.
+const LENGTHS: [usize; 10] = [0, 1, 3, 1_283, 3_458, 3_459, 3_460, AREA_WORDS - 1, AREA_WORDS, AREA_WORDS + 1];
+
+/// Where a field stands in link `i` and circuit `j`; `k` is a place in its path, `v` a node or one that is not there.
+fn place(field: Field, i: usize, j: usize, k: usize, v: usize) -> usize {
     let (link, circuit) = (3 + 5 * i, FIRST_CIRCUIT + CIRCUIT_WORDS * j);
     match field {
         Field::Nodes => 0,
@@ -78,36 +87,46 @@ fn place(field: Field, i: usize, j: usize, k: usize) -> usize {
         Field::PathWord => circuit + 3 + k,
         Field::Length => 0,
         Field::Unused => FIRST_CIRCUIT + CIRCUIT_WORDS * 63 + k,
+        Field::Hold | Field::PastHolds => FIRST_HOLD + v,
     }
 }
 
-/// The field that word `word` of an area belongs to; unused path words are path words here.
-pub fn field_at(word: usize) -> Field {
+/// The field that word `word` of an area of n nodes belongs to; unused path words are path words here.
+pub fn field_at(word: usize, n: usize) -> Field {
     match word {
         0 => Field::Nodes,
         1 => Field::Links,
         2 => Field::Held,
         3..FIRST_CIRCUIT => [Field::From, Field::To, Field::Delay, Field::Cost, Field::Capacity][(word - 3) % 5],
-        _ => match (word - FIRST_CIRCUIT) % CIRCUIT_WORDS {
+        FIRST_CIRCUIT..FIRST_HOLD => match (word - FIRST_CIRCUIT) % CIRCUIT_WORDS {
             0 => Field::Number,
             1 => Field::Units,
             2 => Field::Count,
             _ => Field::PathWord,
         },
+        _ if word < FIRST_HOLD + n => Field::Hold,
+        _ => Field::PastHolds,
     }
 }
 
-pub fn damage(rng: &mut Random, m: u32) -> Damage {
+/// A node, or one that is not there.
+fn node(rng: &mut Random, field: Field, n: u32) -> usize {
+    let node = if field == Field::PastHolds { rng.range(n, MOST_NODES - 1) } else { rng.range(0, n - 1) };
+    node as usize
+}
+
+pub fn damage(rng: &mut Random, n: u32, m: u32) -> Damage {
     let field = rng.pick(&FIELDS);
+    let field = if field == Field::PastHolds && n == MOST_NODES { Field::Hold } else { field };
     if field == Field::Length {
-        return Damage { field, word: 0, change: Change::Cut(rng.pick(&[0, 1, 3, 1_283, 3_457, 3_458, 3_459, 3_460])) };
+        return Damage { field, word: 0, change: Change::Cut(rng.pick(&LENGTHS)) };
     }
     let (i, j, k) = (rng.range(0, m.max(1) - 1) as usize, rng.pick(&[0, 0, 1, 2, 5]), rng.pick(&[0, 0, 1, 2, 30]));
-    let word = place(field, i, j, k);
+    let word = place(field, i, j, k, node(rng, field, n));
     let change = match rng.range(0, 3) {
         0 => Change::To(rng.pick(&EDGES)),
         1 => Change::Add(rng.pick(&[1, 2, u32::MAX])),
-        2 => Change::As(place(field, i / 2, rng.pick(&[0, 1, 3]), k / 2)),
+        2 => Change::As(place(field, i / 2, rng.pick(&[0, 1, 3]), k / 2, node(rng, field, n))),
         _ => Change::To(rng.range(0, 12)),
     };
     Damage { field, word, change }

@@ -4,7 +4,7 @@
 use document01::Rule;
 
 /// The name by which `compare --fault NAME` switches it on, and the rule that is broken.
-pub const FAULTS: [(&str, Rule); 24] = [
+pub const FAULTS: [(&str, Rule); 27] = [
     ("scaled-down", Rule::RoundUp),
     ("total-scaled-once", Rule::ScaleEachLink),
     ("problem-two-first", Rule::ProblemOneFirst),
@@ -29,4 +29,7 @@ pub const FAULTS: [(&str, Rule); 24] = [
     ("zero-bound-no-bound", Rule::ZeroBinds),
     ("zero-bound-scaled-to-x", Rule::ZeroOverX),
     ("zero-bound-as-one", Rule::ZeroIsNotOne),
+    ("held-at-the-target", Rule::NotHeldAtTarget),
+    ("hold-not-scaled", Rule::HoldScaled),
+    ("hold-of-the-node-left", Rule::HoldOfInnerNode),
 ];

@@ -1,38 +1,79 @@
 //! Replies to requests: a refusal has the ledger's number, a grant is judged, and the same network and request always
-//! get the same path.
+//! get the same path. Where nodes hold messages, an answer is set beside the one without hold times.
 
+use crate::hold_tally::Beside;
+use crate::hold_times::delays;
 use crate::memory::Memory;
 use crate::station::{refused, Answer, Checked};
 use document01::judge::{self, require, Grant};
+use document01::ledger::{PATH_WORDS, WORK_WORDS};
 use document01::{Ledger, Reply, Rule};
 use line::Request;
-use std::collections::HashMap;
+use std::collections::{BTreeMap, HashMap};
 
-/// All that the choice among equal solutions may depend on besides the table, capacities left out: which links are
-/// usable, and the request but for its units.
-type Asked = (Vec<bool>, [u32; 5]);
+/// All that the choice among equal solutions may depend on besides n and the links' ends and costs: which links are
+/// usable, their delays for paths to t, and the request but for its units.
+type Asked = (Vec<bool>, Vec<u32>, [u32; 5]);
 
-/// The problem and the path that were granted for each of them, on one table.
+/// A problem and a path that were granted, and the hold times then.
+struct Chosen {
+    problem: u32,
+    path: Vec<u32>,
+    hold_times: Vec<u32>,
+}
+
+/// What was granted for each of them, where n and the links' ends and costs are the same.
 #[derive(Default)]
 pub struct Choices {
-    granted: HashMap<Asked, (u32, Vec<u32>)>,
-    /// How often the same was asked again.
+    granted: HashMap<Asked, Chosen>,
+    /// How often the same was asked again, and how often with other hold times.
     pub repeated: u64,
+    pub other_holds: u64,
+    /// The answers where nodes hold messages.
+    pub beside: BTreeMap<Beside, u64>,
 }
 
 impl Choices {
     fn agree(&mut self, ledger: &Ledger, r: &Request, grant: &Grant) -> Result<(), String> {
         let usable = if ledger.rules().hold(Rule::ChoiceByUsable) { ledger.usable(r.units) } else { Vec::new() };
-        let asked = (usable, [r.s, r.t, r.delay_bound, r.cost_bound, r.coefficient]);
-        let chosen = (grant.problem, grant.path.clone());
+        let request = [r.s, r.t, r.delay_bound, r.cost_bound, r.coefficient];
+        let asked = (usable, delays(&ledger.table, r.t), request);
+        let hold_times = ledger.table.holds.clone();
         match self.granted.get(&asked) {
-            None => drop(self.granted.insert(asked, chosen)),
-            Some(before) => {
-                require(*before == chosen, &format!("the same request got problem and path {before:?} before"))?;
+            None => {
+                let chosen = Chosen { problem: grant.problem, path: grant.path.clone(), hold_times };
+                self.granted.insert(asked, chosen);
+            }
+            Some(Chosen { problem, path, hold_times: before }) => {
+                let same = *problem == grant.problem && *path == grant.path;
+                require(same, &format!("the same request got problem {problem} and path {path:?} before"))?;
                 self.repeated += 1;
+                self.other_holds += u64::from(*before != hold_times);
             }
         }
         Ok(())
+    }
+
+    /// Sets an answer of a search, a grant or 10, beside what the same request gets where every hold time is 0.
+    fn beside(&mut self, ledger: &Ledger, request: &document01::Request, grant: Option<&Grant>) {
+        if ledger.table.holds.iter().all(|&time| time == 0) || !ledger.rules().all_hold() {
+            return;
+        }
+        let mut without = ledger.clone();
+        without.table.holds.fill(0);
+        let beside = match (without.quote(WORK_WORDS, PATH_WORDS, request), grant) {
+            (Reply::Refused(_), _) => Beside::Alike,
+            (Reply::Granted { .. }, None) => Beside::RefusedInstead,
+            (Reply::Granted { problem, least }, Some(grant)) => {
+                let delay = grant.path.iter().map(|&link| ledger.table.links[link as usize].delay).sum();
+                let same_path = Grant { delay, ..grant.clone() };
+                match judge::grant(&without, request, problem, least, &same_path) {
+                    Ok(()) => Beside::Alike,
+                    Err(_) => Beside::OtherPath,
+                }
+            }
+        };
+        *self.beside.entry(beside).or_default() += 1;
     }
 }
 
@@ -60,6 +101,9 @@ pub fn judged(
         Reply::Refused(number) => {
             let answer = refused(code, number, memory)?;
             no_grant_is_due(ledger, number, r)?;
+            if number == 10 {
+                choices.beside(ledger, &document_request(r), None);
+            }
             return Ok(answer);
         }
         Reply::Granted { problem, least } => (problem, least),
@@ -73,6 +117,7 @@ pub fn judged(
     let grant = Grant { problem: numbers[0], delay: numbers[1], cost: numbers[2], path };
     judge::grant(ledger, &document_request(r), problem, least, &grant).map_err(|why| format!("{grant:?}: {why}"))?;
     choices.agree(ledger, r, &grant)?;
+    choices.beside(ledger, &document_request(r), Some(&grant));
     Ok(Answer { code, numbers: numbers.to_vec(), path: grant.path })
 }
 

@@ -7,6 +7,7 @@ use crate::grants::Choices;
 use crate::memory::Memory;
 use crate::station::{Answer, Checked, Station};
 use crate::tally::Tally;
+use document01::judge::require;
 use document01::{area, Entry, Ledger, Rule, Rules, Table};
 
 /// Which call of the list failed, and how; one past the last where the two runs differ.
@@ -39,6 +40,7 @@ pub fn run(case: &Case, rules: Rules, tally: &mut Tally) -> Result<(), Failure> 
     let second = play(case, &struck, rules, OTHER, &mut choices, tally)
         .map_err(|failure| Failure { what: format!("with the quotes struck: {}", failure.what), ..failure })?;
     tally.repeated += choices.repeated;
+    tally.holds.answered(&choices.beside, choices.other_holds);
     let at_end = |what: &str| Failure { call: case.calls.len(), what: what.to_string() };
     if first.answers != second.answers {
         return Err(at_end("with the quotes struck another call answered otherwise"));
@@ -78,10 +80,10 @@ fn play(
 
 /// The area that a case begins at.
 fn loaded(case: &Case, rules: Rules, other: u64, tally: &mut Tally) -> Result<Station, String> {
-    let table =
-        Table::checked(case.n, &case.words).map_err(|number| format!("a table of the case is refused: {number}"))?;
+    let table = Table::checked(case.n, &case.words, &case.hold_times)
+        .map_err(|number| format!("a table of the case is refused: {number}"))?;
     let mut memory = Memory { other, ..Memory::default() };
-    load(case.n, &case.words, case.area, &mut memory, tally)?;
+    load(case.n, &case.words, &case.hold_times, case.area, &mut memory, tally)?;
     Ok(Station { area: Buffer::of(memory.out.slice()), ledger: Some(Ledger::new(table, rules)) })
 }
 
@@ -97,12 +99,22 @@ fn one(
         Call::CheckClasses { rows } => check_classes(rows, rules, memory, tally),
         Call::Class { rows, class: number } => class(rows, *number, rules, memory, tally),
         Call::SampleClasses => sample_classes(memory, tally),
-        Call::Load { n, words, area } => load(*n, words, *area, memory, tally),
+        Call::Load { n, words, hold_times, area } => load(*n, words, hold_times, *area, memory, tally),
         Call::ReadLinkFile { file, table } => read_link_file(file, *table, rules, memory, tally),
+        Call::Folded { request, work, path } => folded(
+            station,
+            &Call::Quote { request: *request, work: *work, path: *path },
+            request.t,
+            memory,
+            choices,
+            tally,
+        ),
         Call::Damaged { damage, call } => {
             let words = damage.done(station.area.slice());
             let mut copy = Station::of_words(&words, rules);
-            tally.damaged(damage.field, copy.ledger.is_some());
+            let formed = copy.ledger.is_some();
+            tally.damaged(damage.field, formed);
+            tally.holds.damaged(damage.field, words.get(damage.word).copied().unwrap_or(0), formed);
             let mut apart = Choices::default();
             let choices = if same_net(&words, station.area.slice()) { choices } else { &mut apart };
             copy.call(call, memory, choices, tally)
@@ -111,10 +123,31 @@ fn one(
     }
 }
 
-/// Whether two areas have the same nodes and the same links but for capacities.
+/// A quote to t, and again where the hold times stand in the links' delays: all that is answered is the same.
+fn folded(
+    station: &mut Station,
+    quote: &Call,
+    t: u32,
+    memory: &mut Memory,
+    choices: &mut Choices,
+    tally: &mut Tally,
+) -> Checked {
+    let answer = station.call(quote, memory, choices, tally)?;
+    let Some(mut copy) = station.folded(t) else {
+        return Ok(answer);
+    };
+    let again = copy.call(quote, memory, choices, tally)?;
+    let same = answer == again;
+    require(same, &format!("gave {answer:?}, and {again:?} where the hold times stand in the delays"))?;
+    tally.holds.folded(answer.code);
+    Ok(answer)
+}
+
+/// Whether two areas have the same nodes and the same links but for capacities, delays and hold times.
 fn same_net(words: &[u32], others: &[u32]) -> bool {
     let whole = words.len() >= area::AREA_WORDS && words[..2] == others[..2];
-    let links =
-        |words: &[u32]| words[3..area::FIRST_CIRCUIT].chunks(5).map(|link| link[..4].to_vec()).collect::<Vec<_>>();
+    let links = |words: &[u32]| {
+        words[3..area::FIRST_CIRCUIT].chunks(5).map(|link| [link[0], link[1], link[3]]).collect::<Vec<_>>()
+    };
     whole && links(words) == links(others)
 }

@@ -1,10 +1,11 @@
 //! The proved calls, made through the C interface, compared with document 01's other implementation.
 //!
-//! A case is a link table and a list of calls, both from one seed (`cases`, `nets`, `requests`, `class_tables`, `files`, `damage`), or
-//! one of those that go through everything (`sweep`). It is run on the archive and every call is held against the ledger
-//! (`history`, `station`, `grants`, `apart`), in lent memory between guard words (`memory`, `buffer`), then run once
-//! more with its quotes struck. A failure is brought down to its smallest list (`smallest`). `tally` says what a run has
-//! seen, `faults` which rules of the other implementation are broken to see that the comparison notices.
+//! A case is a link table with hold times and a list of calls, both from one seed (`cases`, `nets`, `hold_times`,
+//! `requests`, `class_tables`, `files`, `damage`), or one of those that go through everything (`sweep`). It is run on
+//! the archive and every call is held against the ledger (`history`, `station`, `grants`, `apart`), in lent memory
+//! between guard words (`memory`, `buffer`), then run once more with its quotes struck. A failure is brought down to
+//! its smallest list (`smallest`). `tally` and `hold_tally` say what a run has seen, `faults` which rules of the other
+//! implementation are broken to see that the comparison notices.
 
 pub mod apart;
 pub mod buffer;
@@ -15,6 +16,8 @@ pub mod faults;
 pub mod files;
 pub mod grants;
 pub mod history;
+pub mod hold_tally;
+pub mod hold_times;
 pub mod memory;
 pub mod nets;
 pub mod requests;

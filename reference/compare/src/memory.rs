@@ -1,5 +1,5 @@
 //! The buffers beside the area, each between guard words: work memory, the one that a call writes its path, its list or
-//! its table into, the answer array, and words or bytes that a call only reads.
+//! its table into, the answer array, and words that a call only reads: a table and, for Load, hold times.
 
 use crate::buffer::{Buffer, Holds, Lent};
 use document01::judge::require;
@@ -10,6 +10,7 @@ pub struct Memory {
     pub out: Buffer,
     pub answer: Buffer,
     pub read: Buffer,
+    pub hold_times: Buffer,
     /// Turns the contents of every buffer into others of the same length.
     pub other: u64,
 }
@@ -46,7 +47,11 @@ impl Memory {
     /// Words that a call only reads; others stand around them.
     pub fn lend_read(&mut self, words: &[u32]) {
         self.read = Buffer::of(words);
-        self.read.mark();
+    }
+
+    /// The hold times that Load reads besides.
+    pub fn lend_hold_times(&mut self, times: &[u32]) {
+        self.hold_times = Buffer::of(times);
     }
 
     /// Whether a call wrote nothing but work memory.
@@ -57,8 +62,9 @@ impl Memory {
 
     /// Whether the words around every buffer stand, and those that were only to be read.
     pub fn guarded(&self) -> Result<(), String> {
-        let buffers = [&self.work, &self.out, &self.answer, &self.read];
+        let buffers = [&self.work, &self.out, &self.answer, &self.read, &self.hold_times];
         require(buffers.iter().all(|buffer| buffer.guards_stand()), "a word beside a buffer changed")?;
-        require(self.read.same_from(0), "words that were only to be read changed")
+        let kept = self.read.same_from(0) && self.hold_times.same_from(0);
+        require(kept, "words that were only to be read changed")
     }
 }

@@ -1,5 +1,6 @@
-//! Random and adversarial link tables.
+//! Random and adversarial link tables, with hold times.
 
+use crate::hold_times;
 use seeded::Random;
 
 #[derive(Clone, Copy, Debug, PartialEq, Eq)]
@@ -25,7 +26,7 @@ pub enum Style {
     Middle,
     /// Long distances, so x is great.
     Line,
-    /// The longest line with the greatest weights: sums reach 31,000,000.
+    /// The longest line with the greatest weights and hold times: delays reach 61,000,000, costs 31,000,000.
     HeavyLine,
     /// 32 nodes and 256 links.
     Full,
@@ -38,6 +39,11 @@ impl Style {
         matches!(self, Style::Line | Style::HeavyLine)
     }
 
+    /// Whether weights go to the ends of their ranges.
+    fn is_heavy(self) -> bool {
+        matches!(self, Style::Extremes | Style::HeavyLine)
+    }
+
     /// Whether a call takes much longer than on the small networks.
     pub fn is_large(self) -> bool {
         self.is_line() || matches!(self, Style::Middle | Style::Full | Style::FullTies)
@@ -47,6 +53,7 @@ impl Style {
 pub struct Net {
     pub n: u32,
     pub words: Vec<u32>,
+    pub hold_times: Vec<u32>,
     /// How great bounds on a path of some links should be about.
     pub delay_scale: u32,
     pub cost_scale: u32,
@@ -134,9 +141,11 @@ pub fn net(rng: &mut Random, style: Style) -> Net {
     let units_scale = draw.capacity.1;
     if style == Style::Document {
         let words = rng.pick(&[NET_A, NET_B]).to_vec();
-        return Net { n: 4, words, delay_scale: 9, cost_scale: 15, units_scale: 10 };
+        let hold_times = hold_times::drawn(rng, 4, 4, false);
+        return Net { n: 4, words, hold_times, delay_scale: 9, cost_scale: 15, units_scale: 10 };
     }
     let n = rng.range(draw.nodes.0, draw.nodes.1);
+    let hold_times = hold_times::drawn(rng, n, draw.delay.1, style.is_heavy());
     let m = rng.range(draw.links.0, draw.links.1).max(if style.is_line() { n - 1 } else { 0 });
     let mut words = Vec::new();
     for i in 0..m {
@@ -145,5 +154,5 @@ pub fn net(rng: &mut Random, style: Style) -> Net {
         words.extend([from, to, delay, cost, number(rng, style, draw.capacity)]);
     }
     let units_scale = if style == Style::Roomy { 3 } else { units_scale };
-    Net { n, words, delay_scale, cost_scale, units_scale }
+    Net { n, words, hold_times, delay_scale, cost_scale, units_scale }
 }

@@ -56,7 +56,7 @@ fn left_out(mut case: Case, rules: Rules) -> (Case, Failure) {
     }
 }
 
-/// The seed, the table and the calls, to read and to run again.
+/// The seed, the table with its hold times and the calls, to read and to run again.
 pub fn print(case: &Case, failure: &Failure) {
     println!("failure: seed {}: {}", case.seed, failure.what);
     println!("  the whole case again: compare --case {}", case.seed);
@@ -68,6 +68,7 @@ pub fn print(case: &Case, failure: &Failure) {
             link[0], link[1], link[2], link[3], link[4]
         );
     }
+    println!("  hold times {:?}", case.hold_times);
     println!("  the smallest list of calls that shows it ({}):", case.calls.len());
     for (number, call) in case.calls.iter().enumerate() {
         let mark = if number == failure.call { "  <- here" } else { "" };

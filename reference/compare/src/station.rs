@@ -3,8 +3,10 @@
 use crate::buffer::{Buffer, Lent};
 use crate::cases::Call;
 use crate::grants::{document_request, judged, Choices};
+use crate::hold_times;
 use crate::memory::Memory;
 use crate::tally::Tally;
+use document01::area::{FIRST_CIRCUIT, FIRST_HOLD};
 use document01::judge::require;
 use document01::{area, Entry, Ledger, Reply, Rules};
 use line::Request;
@@ -37,6 +39,14 @@ impl Station {
         Station { area: Buffer::of(words), ledger: area::read(words, rules) }
     }
 
+    /// The same station, but that the hold times stand in the delays of the links, for paths to t. There is none where
+    /// no node holds a message.
+    pub fn folded(&self, t: u32) -> Option<Station> {
+        let ledger = self.ledger.as_ref().filter(|ledger| ledger.table.holds.iter().any(|&time| time > 0))?;
+        let words = hold_times::folded(self.area.slice(), &ledger.table, t)?;
+        Some(Station::of_words(&words, ledger.rules()))
+    }
+
     /// Makes a call that concerns the area.
     pub fn call(&mut self, call: &Call, memory: &mut Memory, choices: &mut Choices, tally: &mut Tally) -> Checked {
         self.area.mark();
@@ -65,6 +75,7 @@ impl Station {
         if !answer.path.is_empty() {
             let links = self.ledger.as_ref().map_or(0, |ledger| ledger.table.links.len());
             tally.granted(answer.numbers[0], answer.path.len(), links);
+            tally.holds.granted(answer.numbers[1]);
         }
         Ok(answer)
     }
@@ -149,11 +160,13 @@ impl Station {
         Ok(Answer { code, numbers: vec![answered], path: Vec::new() })
     }
 
-    /// After an admission or a release: the area is well formed, its bookings are the entries, and n, m, the links and
-    /// the words past the circuits are untouched.
+    /// After an admission or a release: the area is well formed, its bookings are the entries, and n, m, the links, the
+    /// hold times and the words past them are untouched.
     fn books_agree(&self) -> Result<(), String> {
         let (now, before) = (self.area.slice(), self.area.before());
-        let kept = now[..2] == before[..2] && now[3..1_283] == before[3..1_283] && now[3_459..] == before[3_459..];
+        let links = 3..FIRST_CIRCUIT;
+        let kept =
+            now[..2] == before[..2] && now[links.clone()] == before[links] && now[FIRST_HOLD..] == before[FIRST_HOLD..];
         require(kept, "a word that is not a circuit's changed")?;
         let entries = self.ledger.as_ref().map(Ledger::bookings);
         let bookings = self.bookings();

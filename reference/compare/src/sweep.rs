@@ -1,13 +1,16 @@
-//! Cases that go through everything once instead of drawing it: each word of two areas set to each of the numbers at
-//! which a range ends, buffers of every length around each limit, the longest path with the greatest weights, and class
-//! tables of every word count with each number at and past both ends of its range.
+//! Cases that go through everything once instead of drawing it: each word of two areas and each hold word of 32 nodes
+//! set to each of the numbers at which a range ends, buffers of every length around each limit, the longest path with
+//! the greatest weights, with and without hold times, class tables of every word count and hold lists of every length,
+//! with each number at and past both ends of its range.
 
 use crate::buffer::{Holds, Lent};
 use crate::cases::{Call, Case};
 use crate::class_tables;
 use crate::damage::{field_at, Change, Damage, Field, EDGES};
+use crate::hold_times;
 use crate::nets::Style;
-use document01::area::AREA_WORDS;
+use document01::area::{AREA_WORDS, FIRST_HOLD};
+use document01::table::{MOST_COST_BOUND, MOST_HOLD};
 use line::Request;
 
 /// A case takes so many words of an area, after one setting up of its circuits.
@@ -15,14 +18,16 @@ const WORDS: usize = 12;
 
 const CASES_AN_AREA: u64 = AREA_WORDS.div_ceil(WORDS) as u64;
 
-/// How many such cases there are: the words of two areas, the lengths, the longest path, and the class tables.
-pub const COUNT: u64 = 2 * CASES_AN_AREA + 3;
+/// How many such cases there are: the words of two areas, hold words, lengths, the longest path twice, class tables and
+/// hold lists.
+pub const COUNT: u64 = 2 * CASES_AN_AREA + 6;
 
 const ENOUGH_WORK: Lent = Lent { words: 16_384, holds: Holds::Kept };
 const ENOUGH_PATH: Lent = Lent { words: 31, holds: Holds::Kept };
 
 /// A triangle with a parallel link and a way back; the capacities leave room for 64 circuits of one unit.
 const SMALL: [u32; 25] = [0, 1, 2, 5, 70, 1, 2, 2, 5, 70, 0, 2, 9, 1, 70, 0, 2, 9, 2, 3, 2, 0, 1, 1, 70];
+const SMALL_HOLDS: [u32; 3] = [5, 3, 8];
 
 fn request(s: u32, t: u32) -> Request {
     Request { s, t, units: 1, delay_bound: 12, cost_bound: 20, coefficient: 4 }
@@ -50,20 +55,22 @@ fn call(which: usize) -> Call {
 
 fn with_calls(seed: u64, calls: Vec<Call>) -> Case {
     let area = Lent { words: AREA_WORDS, holds: Holds::Random(seed) };
-    Case { seed, style: Style::Tiny, n: 3, words: SMALL.to_vec(), area, calls }
+    let (words, hold_times) = (SMALL.to_vec(), SMALL_HOLDS.to_vec());
+    Case { seed, style: Style::Tiny, n: 3, words, hold_times, area, calls }
 }
 
-/// Some words of an area with so many circuits held, each set to each number and increased and decreased by one.
-fn damaged(seed: u64, first: usize, held: u32) -> Case {
+/// Some words of an area with so many circuits held, each set to each number and increased and decreased by one. The
+/// area held `holds` before Load, which leaves the hold words past n: random words are not in range, ones are.
+fn damaged(seed: u64, first: usize, held: u32, holds: Holds) -> Case {
     let mut calls: Vec<Call> = (1..=held).map(admit).collect();
     for word in first..AREA_WORDS.min(first + WORDS) {
         let changes = EDGES.map(Change::To).into_iter().chain([Change::Add(1), Change::Add(u32::MAX)]);
         for (which, change) in changes.enumerate() {
-            let damage = Damage { field: field_at(word), word, change };
+            let damage = Damage { field: field_at(word, SMALL_HOLDS.len()), word, change };
             calls.push(Call::Damaged { damage, call: Box::new(call(which + word)) });
         }
     }
-    with_calls(seed, calls)
+    Case { area: Lent { words: AREA_WORDS, holds }, ..with_calls(seed, calls) }
 }
 
 /// Every length around each limit, for every buffer of every call.
@@ -83,8 +90,9 @@ fn lengths(seed: u64) -> Case {
         let file = document01::link_file::write(b"notes", 3, &SMALL);
         calls.push(Call::ReadLinkFile { file, table: lent(words) });
     }
-    for words in (0..6).chain(3_450..3_470) {
-        calls.push(Call::Load { n: 3, words: SMALL.to_vec(), area: lent(words) });
+    let load = |words, area| Call::Load { n: 3, words, hold_times: SMALL_HOLDS.to_vec(), area };
+    for words in (0..6).chain(3_450..3_500) {
+        calls.push(load(SMALL.to_vec(), lent(words)));
         for which in 0..5 {
             let damage = Damage { field: Field::Length, word: 0, change: Change::Cut(words) };
             calls.push(Call::Damaged { damage, call: Box::new(call(which)) });
@@ -92,19 +100,35 @@ fn lengths(seed: u64) -> Case {
     }
     for words in (0..32).chain(1_270..1_292) {
         let words = SMALL.iter().copied().cycle().take(words).collect();
-        calls.push(Call::Load { n: 3, words, area: lent(AREA_WORDS) });
+        calls.push(load(words, lent(AREA_WORDS)));
     }
     with_calls(seed, calls)
 }
 
-/// 32 nodes in a line, eight links of the greatest weights from each to the next, and eight links back from the last:
-/// x is 248, and every path from end to end adds up to the greatest bound.
-fn longest(seed: u64) -> Case {
+/// 32 nodes in a line, eight links of the greatest weights from each to the next, and eight links back from the last.
+fn line(seed: u64, hold: u32, calls: Vec<Call>) -> Case {
     let link = |i: u32| [i % 31, i % 31 + 1, 1_000_000, 1_000_000, 65_535];
     let words = (0..256).flat_map(|i| if i < 248 { link(i) } else { [31, i - 248, 1_000_000, 0, 1] }).collect();
-    let most = 31_000_000;
+    Case { n: 32, words, hold_times: vec![hold; 32], ..with_calls(seed, calls) }
+}
+
+/// Each hold word of 32 nodes set to each number.
+fn held(seed: u64) -> Case {
+    let damaged = |(which, word): (usize, usize)| {
+        let damage = move |value| Damage { field: Field::Hold, word, change: Change::To(value) };
+        EDGES.map(|value| Call::Damaged { damage: damage(value), call: Box::new(call(which)) })
+    };
+    line(seed, 0, (FIRST_HOLD..AREA_WORDS).enumerate().flat_map(damaged).collect())
+}
+
+/// From end to end of the line: x is 248, and every path adds up to the greatest cost bound, and with the greatest hold
+/// times to the greatest delay bound. A bound of 1 makes the greatest scaled weights.
+fn longest(seed: u64, hold: u32) -> Case {
+    let (delay, cost) = (31 * 1_000_000 + 30 * hold, MOST_COST_BOUND);
     let mut calls = Vec::new();
-    for (delay_bound, cost_bound) in [(most, most), (most - 1, most), (most, most - 1), (most - 1, most - 1)] {
+    let bounds =
+        [delay, delay - 1, 1].map(|delay_bound| [cost, cost - 1, 1].map(|cost_bound| (delay_bound, cost_bound)));
+    for (delay_bound, cost_bound) in bounds.into_iter().flatten() {
         for units in [1, 65_535] {
             let request = Request { s: 0, t: 31, units, delay_bound, cost_bound, coefficient: 8 };
             calls.push(Call::Quote { request, work: ENOUGH_WORK, path: ENOUGH_PATH });
@@ -112,17 +136,22 @@ fn longest(seed: u64) -> Case {
             calls.push(Call::FreeUnits { link: 0 });
         }
     }
-    Case { n: 32, words, ..with_calls(seed, calls) }
+    line(seed, hold, calls)
 }
 
 /// The case of a number below `COUNT`.
 pub fn case(number: u64) -> Case {
     let first = WORDS * (number % CASES_AN_AREA) as usize;
     match number / CASES_AN_AREA {
-        0 => damaged(number, first, 5),
-        1 => damaged(number, first, 64),
-        _ if number + 2 < COUNT => lengths(number),
-        _ if number + 1 < COUNT => longest(number),
-        _ => with_calls(number, class_tables::all()),
+        0 => damaged(number, first, 5, Holds::Random(number)),
+        1 => damaged(number, first, 64, Holds::Ones),
+        _ => match COUNT - number {
+            6 => held(number),
+            5 => lengths(number),
+            4 => longest(number, 0),
+            3 => longest(number, MOST_HOLD),
+            2 => with_calls(number, class_tables::all()),
+            _ => with_calls(number, hold_times::all()),
+        },
     }
 }

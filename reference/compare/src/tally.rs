@@ -2,6 +2,7 @@
 
 use crate::class_tables::{ends, COUNTS, RANGES};
 use crate::damage::{Field, FIELDS};
+use crate::hold_tally::HoldTally;
 use std::collections::{BTreeMap, BTreeSet};
 
 #[derive(Clone, Default)]
@@ -23,11 +24,12 @@ pub struct Tally {
     full: u64,
     /// Quotes and admissions whose network and request came before: they had to get the same path.
     pub repeated: u64,
+    pub holds: HoldTally,
 }
 
 /// Every number that the papers give a call, 0 for a grant.
 const DUE: [(&str, &[u32]); 10] = [
-    ("load", &[0, 1, 2, 3, 4]),
+    ("load", &[0, 1, 2, 3, 4, 22]),
     ("quote", &[0, 5, 6, 7, 8, 9, 10]),
     ("admit", &[0, 5, 6, 7, 8, 11, 12, 9, 10]),
     ("release", &[0, 5, 13]),
@@ -87,6 +89,7 @@ impl Tally {
     }
 
     pub fn add(&mut self, other: &Tally) {
+        self.holds.add(&other.holds);
         self.counts.extend(&other.counts);
         self.row_ends.extend(&other.row_ends);
         self.classes.extend(&other.classes);
@@ -111,6 +114,15 @@ impl Tally {
 
     /// What a whole run ought to have seen and has not.
     pub fn missing(&self) -> Vec<String> {
+        let mut missing = self.missing_numbers();
+        missing.extend(self.missing_rows());
+        missing.extend(self.missing_grants());
+        missing.extend(self.holds.missing());
+        missing
+    }
+
+    /// Numbers of calls, and damaged fields.
+    fn missing_numbers(&self) -> Vec<String> {
         let mut missing = Vec::new();
         for (call, numbers) in DUE {
             for &number in numbers.iter().filter(|&&number| !self.numbers.contains_key(&(call, number))) {
@@ -118,7 +130,7 @@ impl Tally {
             }
         }
         for field in FIELDS {
-            let spoils = field != Field::Unused;
+            let spoils = !matches!(field, Field::Unused | Field::PastHolds);
             if spoils && !self.damaged.contains_key(&(field, false)) {
                 missing.push(format!("{field:?} damaged never gave 5"));
             }
@@ -126,6 +138,12 @@ impl Tally {
                 missing.push(format!("{field:?} damaged never stayed well formed"));
             }
         }
+        missing
+    }
+
+    /// Word counts, ends and classes of class tables.
+    fn missing_rows(&self) -> Vec<String> {
+        let mut missing = Vec::new();
         for count in COUNTS.iter().filter(|count| !self.counts.contains(count)) {
             missing.push(format!("no class table had {count} words"));
         }
@@ -137,6 +155,12 @@ impl Tally {
         for class in (-2..=2).filter(|class| !self.classes.contains(class)) {
             missing.push(format!("no class was {class} from the row count"));
         }
+        missing
+    }
+
+    /// Problems, outcomes with bounds of 0, and the longest path.
+    fn missing_grants(&self) -> Vec<String> {
+        let mut missing = Vec::new();
         for problem in [1, 2] {
             if self.problems[problem] == 0 {
                 missing.push(format!("problem {problem} never granted"));
@@ -176,6 +200,7 @@ impl Tally {
             println!("  {name:<16}refused, by one and by two: {}", counts.join("  "));
         }
         println!("                  among 256 links: {}  most links of a path: {}", self.full, self.longest);
+        self.holds.print();
         println!("  same network and request again, same path: {}", self.repeated);
         println!("  calls replayed with the quotes struck: {}", self.replayed);
     }

@@ -4,10 +4,11 @@ use crate::ledger::{Ledger, MOST_HELD, PATH_WORDS};
 use crate::rules::{Rule, Rules};
 use crate::table::{Table, LINK_WORDS, MOST_LINKS, MOST_UNITS};
 
-pub const AREA_WORDS: usize = 3_459;
+pub const AREA_WORDS: usize = 3_491;
 pub const FIRST_LINK: usize = 3;
 pub const FIRST_CIRCUIT: usize = 1_283;
 pub const CIRCUIT_WORDS: usize = 34;
+pub const FIRST_HOLD: usize = 3_459;
 
 /// What a well-formed area says, or nothing where it is too short or not well formed: then a call gives 5.
 pub fn read(words: &[u32], rules: Rules) -> Option<Ledger> {
@@ -18,7 +19,9 @@ pub fn read(words: &[u32], rules: Rules) -> Option<Ledger> {
     if m > MOST_LINKS || held > MOST_HELD {
         return None;
     }
-    let table = Table::checked(n, &words[FIRST_LINK..FIRST_LINK + LINK_WORDS * m]).ok()?;
+    // The hold words of nodes that are not there may hold anything.
+    let holds = words[FIRST_HOLD..AREA_WORDS].get(..n as usize)?;
+    let table = Table::checked(n, &words[FIRST_LINK..FIRST_LINK + LINK_WORDS * m], holds).ok()?;
     let mut ledger = Ledger::new(table, rules);
     for circuit in words[FIRST_CIRCUIT..].chunks(CIRCUIT_WORDS).take(held) {
         read_circuit(&mut ledger, circuit)?;

@@ -31,9 +31,13 @@ pub fn grant(ledger: &Ledger, request: &Request, problem: u32, least: u64, grant
     let search = ledger.search(request).ok_or("no usable path exists")?;
     let numbers = || path.iter().map(|&number| number as usize);
     require(numbers().all(|number| search.usable[number]), "a link is not usable")?;
-    let delay: u64 = numbers().map(|number| u64::from(ledger.table.links[number].delay)).sum();
+    let held: u64 = nodes[1..nodes.len() - 1].iter().map(|&node| u64::from(ledger.table.holds[node as usize])).sum();
+    let delay: u64 = held + numbers().map(|number| u64::from(ledger.table.links[number].delay)).sum::<u64>();
     let cost: u64 = numbers().map(|number| u64::from(ledger.table.links[number].cost)).sum();
-    require(u64::from(grant.delay) == delay, "the delay is not the sum of the links' delays")?;
+    require(
+        u64::from(grant.delay) == delay,
+        "the delay is not the sum of the links' delays and the inner nodes' hold times",
+    )?;
     require(u64::from(grant.cost) == cost, "the cost is not the sum of the links' costs")?;
     require(delay <= u64::from(request.delay_bound), "the delay bound is not met")?;
     require(cost <= u64::from(request.cost_bound), "the cost bound is not met")?;
@@ -41,6 +45,6 @@ pub fn grant(ledger: &Ledger, request: &Request, problem: u32, least: u64, grant
     let kept = if problem == 1 { delay } else { cost };
     require(kept == least, &format!("the least kept weight is {least}"))?;
     let reduced = search.problem(problem);
-    let scaled: u64 = numbers().map(|number| reduced.scaled[number]).sum();
+    let (_, scaled) = reduced.sums(path);
     require(reduced.within(kept, scaled), "the path does not solve the problem")
 }

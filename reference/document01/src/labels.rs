@@ -1,7 +1,8 @@
-//! The exact method for networks with too many paths to list. A label says that a node can be reached with some kept
-//! and some scaled weight. Labels are taken in order of their kept weight from a heap; one whose node was reached before
-//! with no more scaled weight is dropped. The first label of t has the least kept weight. Weights are not negative, so
-//! walks that pass a node twice make no solution lighter.
+//! The exact method for networks with too many paths to list, from t backwards. A label says that a way leads from a
+//! node to t with some kept and some scaled weight; the node's own hold time is in neither, since the way begins there.
+//! Labels are taken in order of their kept weight from a heap; one whose node was reached before with no more scaled
+//! weight is dropped. The first label of s has the least kept weight. Weights are not negative, so walks that pass a
+//! node twice make no solution lighter.
 
 use crate::problems::Reduced;
 use crate::table::Table;
@@ -24,30 +25,33 @@ pub fn distance(table: &Table, usable: &[bool], s: u32, t: u32) -> Option<u32> {
     far[t as usize]
 }
 
-/// The links that leave each node, by number.
-fn leaving(table: &Table, usable: &[bool]) -> Vec<Vec<usize>> {
+/// The links that lead to each node, by number.
+fn leading(table: &Table, usable: &[bool]) -> Vec<Vec<usize>> {
     let mut out = vec![Vec::new(); table.n as usize];
     for (number, link) in table.links.iter().enumerate().filter(|(number, _)| usable[*number]) {
-        out[link.from as usize].push(number);
+        out[link.to as usize].push(number);
     }
     out
 }
 
 /// The least kept weight of a solution.
 pub fn least(table: &Table, usable: &[bool], s: u32, t: u32, problem: &Reduced) -> Option<u64> {
-    let leaving = leaving(table, usable);
+    let leading = leading(table, usable);
     let mut reached: Vec<Option<u64>> = vec![None; table.n as usize];
-    let mut heap = BinaryHeap::from([Reverse((0, 0, s))]);
+    let mut heap = BinaryHeap::from([Reverse((0, 0, t))]);
     while let Some(Reverse((kept, scaled, at))) = heap.pop() {
-        if at == t {
+        if at == s {
             return Some(kept);
         }
         if reached[at as usize].is_some_and(|before| before <= scaled) {
             continue;
         }
         reached[at as usize] = Some(scaled);
-        for &number in &leaving[at as usize] {
-            let label = (kept + problem.kept[number], scaled + problem.scaled[number], table.links[number].to);
+        // With a link in front of the way, the node where the way begins is an inner one; but at t no way has begun.
+        let behind = (at != t).then_some(at);
+        for &number in &leading[at as usize] {
+            let (more_kept, more_scaled) = problem.weights(number, behind);
+            let label = (kept + more_kept, scaled + more_scaled, table.links[number].from);
             let dominated = reached[label.2 as usize].is_some_and(|before| before <= label.1);
             if !dominated && problem.within(label.0, label.1) {
                 heap.push(Reverse(label));

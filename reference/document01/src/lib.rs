@@ -3,6 +3,7 @@
 //!
 //! - the reduced problems are solved by listing every path and looking at all of them (`paths`), and where there are too
 //!   many, by labels taken in order of their kept weight (`labels`); no table d[v, k], no rounds, no trace;
+//! - hold times are added along a path, one at each node between its links (`table`);
 //! - rows are taken off the front of a class table, and each is held to check 8 as a request (`classes`);
 //! - bookings are a ledger's list of entries (`ledger`), and an area is only ever read (`area`);
 //! - which of several best paths is granted is open, so a grant is judged (`judge`) and not foretold.

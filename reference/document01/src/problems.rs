@@ -5,20 +5,35 @@ use crate::paths;
 use crate::rules::{Rule, Rules};
 use crate::table::{Request, Table};
 
-/// One reduced problem: the links' kept and scaled weights, with the bound of each sum.
-pub struct Reduced {
-    pub kept: Vec<u64>,
-    pub scaled: Vec<u64>,
-    bound: u64,
-    x: u64,
-    rules: Rules,
+/// One reduced problem of a search. Problem one keeps delay and scales cost; problem two the other way about.
+pub struct Reduced<'a> {
+    search: &'a Search<'a>,
+    which: u32,
 }
 
-impl Reduced {
+impl Reduced<'_> {
+    /// The kept and the scaled weight of a link of a path with the inner node behind it, if there is one.
+    pub fn weights(&self, number: usize, behind: Option<u32>) -> (u64, u64) {
+        let search = self.search;
+        let (delay, cost) = (search.delay(number, behind), search.cost(number));
+        if self.which == 1 {
+            return (delay, search.scale(cost, search.cost_bound()));
+        }
+        let whole = if search.rules.hold(Rule::HoldScaled) { delay } else { search.link_delay(number) };
+        (cost, search.scale(whole, search.delay_bound()))
+    }
+
+    /// The sums of a path's kept and scaled weights.
+    pub fn sums(&self, path: &[u32]) -> (u64, u64) {
+        added(self.search.table.steps(path).map(|(number, behind)| self.weights(number, behind)))
+    }
+
     /// Whether sums of kept and scaled weight are within their bounds.
     pub fn within(&self, kept: u64, scaled: u64) -> bool {
-        let bound_met = kept < self.bound || (kept == self.bound && self.rules.hold(Rule::EqualBound));
-        let x_met = scaled < self.x || (scaled == self.x && self.rules.hold(Rule::EqualScaled));
+        let bound = if self.which == 1 { self.search.delay_bound() } else { self.search.cost_bound() };
+        let (x, rules) = (self.search.x, self.search.rules);
+        let bound_met = kept < bound || (kept == bound && rules.hold(Rule::EqualBound));
+        let x_met = scaled < x || (scaled == x && rules.hold(Rule::EqualScaled));
         bound_met && x_met
     }
 }
@@ -45,8 +60,9 @@ pub struct Search<'a> {
 /// More than any path of links in their ranges is scaled to.
 const BARRED: u64 = 1 << 40;
 
-fn sum(weights: &[u64], path: &[u32]) -> u64 {
-    path.iter().map(|&number| weights[number as usize]).sum()
+/// The sums of pairs of weights.
+fn added(weights: impl Iterator<Item = (u64, u64)>) -> (u64, u64) {
+    weights.fold((0, 0), |sums, more| (sums.0 + more.0, sums.1 + more.1))
 }
 
 impl<'a> Search<'a> {
@@ -67,12 +83,33 @@ impl<'a> Search<'a> {
         Some(Search { table, usable, request, x, listed, rules })
     }
 
-    fn delays(&self) -> Vec<u64> {
-        self.table.links.iter().map(|link| u64::from(link.delay)).collect()
+    fn delay_bound(&self) -> u64 {
+        u64::from(self.request.delay_bound)
     }
 
-    fn costs(&self) -> Vec<u64> {
-        self.table.links.iter().map(|link| u64::from(link.cost)).collect()
+    fn cost_bound(&self) -> u64 {
+        u64::from(self.request.cost_bound)
+    }
+
+    fn link_delay(&self, number: usize) -> u64 {
+        u64::from(self.table.links[number].delay)
+    }
+
+    /// The delay of a link of a path and the hold time of the inner node behind it, if there is one.
+    fn delay(&self, number: usize, behind: Option<u32>) -> u64 {
+        let link = &self.table.links[number];
+        let behind = if self.rules.hold(Rule::NotHeldAtTarget) { behind } else { Some(link.to) };
+        let at = if self.rules.hold(Rule::HoldOfInnerNode) { behind } else { behind.map(|_| link.from) };
+        self.link_delay(number) + at.map_or(0, |node| u64::from(self.table.holds[node as usize]))
+    }
+
+    fn cost(&self, number: usize) -> u64 {
+        u64::from(self.table.links[number].cost)
+    }
+
+    /// The delay and the cost of a path.
+    fn totals(&self, path: &[u32]) -> (u64, u64) {
+        added(self.table.steps(path).map(|(number, behind)| (self.delay(number, behind), self.cost(number))))
     }
 
     /// Formula 1, for a weight of a link. Where nothing may be spent there is nothing to scale: a link that weighs something
@@ -94,15 +131,8 @@ impl<'a> Search<'a> {
         }
     }
 
-    /// Problem one keeps delay and scales cost; problem two the other way about.
-    pub fn problem(&self, which: u32) -> Reduced {
-        let (delay_bound, cost_bound) = (u64::from(self.request.delay_bound), u64::from(self.request.cost_bound));
-        let (kept, bound, other, other_bound) = match which {
-            1 => (self.delays(), delay_bound, self.costs(), cost_bound),
-            _ => (self.costs(), cost_bound, self.delays(), delay_bound),
-        };
-        let scaled = other.iter().map(|&weight| self.scale(weight, other_bound)).collect();
-        Reduced { kept, scaled, bound, x: self.x, rules: self.rules }
+    pub fn problem(&self, which: u32) -> Reduced<'_> {
+        Reduced { search: self, which }
     }
 
     /// The least kept weight of a problem's solutions: by all paths where they are listed, else by labels.
@@ -112,7 +142,7 @@ impl<'a> Search<'a> {
         let Some(paths) = &self.listed else {
             return labels::least(self.table, &self.usable, s, t, &problem);
         };
-        let kept = paths.iter().filter(|path| self.solves(&problem, which, path)).map(|path| sum(&problem.kept, path));
+        let kept = paths.iter().filter_map(|path| self.solution(&problem, path));
         let least = if self.rules.hold(Rule::LeastKept) { kept.min() } else { kept.max() };
         if self.rules.all_hold() {
             // The two methods answer alike wherever both can be used.
@@ -121,15 +151,15 @@ impl<'a> Search<'a> {
         least
     }
 
-    fn solves(&self, problem: &Reduced, which: u32, path: &[u32]) -> bool {
-        let scaled = if self.rules.hold(Rule::ScaleEachLink) {
-            sum(&problem.scaled, path)
-        } else if which == 1 {
-            self.scale(sum(&self.costs(), path), u64::from(self.request.cost_bound))
-        } else {
-            self.scale(sum(&self.delays(), path), u64::from(self.request.delay_bound))
+    /// The kept weight of a path that solves a problem.
+    fn solution(&self, problem: &Reduced, path: &[u32]) -> Option<u64> {
+        let (kept, each_scaled) = problem.sums(path);
+        let scaled_once = || match (problem.which, self.totals(path)) {
+            (1, (_, cost)) => self.scale(cost, self.cost_bound()),
+            (_, (delay, _)) => self.scale(delay, self.delay_bound()),
         };
-        problem.within(sum(&problem.kept, path), scaled)
+        let scaled = if self.rules.hold(Rule::ScaleEachLink) { each_scaled } else { scaled_once() };
+        problem.within(kept, scaled).then_some(kept)
     }
 
     /// Section 2.3: the second problem is tried only if the first has no solution.
@@ -143,12 +173,11 @@ impl<'a> Search<'a> {
     /// Whether a listed path is overqualified: within both bounds, one of them with weight·x + l·bound ≤ (x+1)·bound.
     /// Then a grant is due.
     pub fn has_overqualified(&self) -> bool {
-        let (delays, costs) = (self.delays(), self.costs());
-        let (delay_bound, cost_bound) = (u64::from(self.request.delay_bound), u64::from(self.request.cost_bound));
+        let (delay_bound, cost_bound) = (self.delay_bound(), self.cost_bound());
         let most = self.x + if self.rules.hold(Rule::Overqualified) { 1 } else { 2 };
         let qualifies = |weight: u64, links: usize, bound: u64| weight * self.x + links as u64 * bound <= most * bound;
         self.listed.iter().flatten().any(|path| {
-            let (delay, cost) = (sum(&delays, path), sum(&costs, path));
+            let (delay, cost) = self.totals(path);
             delay <= delay_bound
                 && cost <= cost_bound
                 && (qualifies(cost, path.len(), cost_bound) || qualifies(delay, path.len(), delay_bound))

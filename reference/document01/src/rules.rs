@@ -50,6 +50,12 @@ pub enum Rule {
     ZeroOverX,
     /// A bound of 0 is less than a bound of 1. Broken: it is read as 1.
     ZeroIsNotOne,
+    /// A message is held at inner nodes alone. Broken: at t as well.
+    NotHeldAtTarget,
+    /// Problem two scales a link's delay with the hold time of the inner node behind it. Broken: the delay alone.
+    HoldScaled,
+    /// A hold time is that of the inner node behind a link. Broken: of the node that the link leaves.
+    HoldOfInnerNode,
 }
 
 /// Document 01's rules, all of them or all but one.

@@ -1,4 +1,4 @@
-//! Links, a link table with its ranges, and a request with its own.
+//! Links and hold times, a loaded table with their ranges, and a request with its own.
 
 use crate::rules::{Rule, Rules};
 
@@ -6,7 +6,9 @@ pub const MOST_NODES: u32 = 32;
 pub const MOST_LINKS: usize = 256;
 pub const LINK_WORDS: usize = 5;
 pub const MOST_WEIGHT: u32 = 1_000_000;
-pub const MOST_BOUND: u32 = 31_000_000;
+pub const MOST_HOLD: u32 = 1_000_000;
+pub const MOST_DELAY_BOUND: u32 = 61_000_000;
+pub const MOST_COST_BOUND: u32 = 31_000_000;
 pub const MOST_UNITS: u32 = 65_535;
 
 #[derive(Clone, Copy, Debug, PartialEq, Eq)]
@@ -22,6 +24,8 @@ pub struct Link {
 pub struct Table {
     pub n: u32,
     pub links: Vec<Link>,
+    /// Each node's hold time.
+    pub holds: Vec<u32>,
 }
 
 impl Link {
@@ -37,8 +41,8 @@ impl Link {
 }
 
 impl Table {
-    /// Checks 2, 3 and 4 of Load, in this order.
-    pub fn checked(n: u32, words: &[u32]) -> Result<Table, u32> {
+    /// Checks 2, 3, 4 and 22 of Load, in this order.
+    pub fn checked(n: u32, words: &[u32], holds: &[u32]) -> Result<Table, u32> {
         if !(2..=MOST_NODES).contains(&n) {
             return Err(2);
         }
@@ -49,7 +53,10 @@ impl Table {
         if links.iter().any(|link| !link.in_range(n)) {
             return Err(4);
         }
-        Ok(Table { n, links })
+        if holds.len() != n as usize || holds.iter().any(|&hold| hold > MOST_HOLD) {
+            return Err(22);
+        }
+        Ok(Table { n, links, holds: holds.to_vec() })
     }
 
     /// The nodes that a list of links passes, or nothing where a number is no link or a link does not begin where the
@@ -66,6 +73,12 @@ impl Table {
             nodes.push(link.to);
         }
         Some(nodes)
+    }
+
+    /// Each link of a path with the inner node behind it, at which the next link begins. The last link has none.
+    pub fn steps<'a>(&'a self, path: &'a [u32]) -> impl Iterator<Item = (usize, Option<u32>)> + 'a {
+        let behind = |at: usize| path.get(at + 1).map(|&next| self.links[next as usize].from);
+        path.iter().enumerate().map(move |(at, &number)| (number as usize, behind(at)))
     }
 
     /// Whether the links are a path: one or more that follow on each other and pass no node twice.
@@ -99,8 +112,8 @@ impl Request {
             && self.t < n
             && self.s != self.t
             && (1..=MOST_UNITS).contains(&self.units)
-            && (least..=MOST_BOUND).contains(&self.delay_bound)
-            && (least..=MOST_BOUND).contains(&self.cost_bound)
+            && (least..=MOST_DELAY_BOUND).contains(&self.delay_bound)
+            && (least..=MOST_COST_BOUND).contains(&self.cost_bound)
             && (1..=8).contains(&self.coefficient)
     }
 }

@@ -6,7 +6,7 @@ const NET_A: [u32; 20] = [0, 1, 2, 5, 10, 1, 2, 2, 5, 10, 2, 3, 2, 5, 10, 0, 3, 
 const NET_F: [u32; 30] = [0, 1, 3, 0, 5, 1, 2, 0, 0, 2, 2, 3, 3, 0, 5, 0, 3, 4, 1, 10, 0, 1, 0, 5, 10, 2, 3, 0, 5, 10];
 
 fn ledger(words: &[u32]) -> Ledger {
-    Ledger::new(Table::checked(4, words).unwrap(), Rules::all())
+    Ledger::new(Table::checked(4, words, &[0; 4]).unwrap(), Rules::all())
 }
 
 fn request(units: u32, delay_bound: u32, cost_bound: u32, coefficient: u32) -> Request {

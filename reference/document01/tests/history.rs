@@ -91,7 +91,7 @@ fn judge_row(ledger: &mut Ledger, row: &Row, name: &str, printed: &str) {
 
 /// One of the two runs; `all` says whether the quotes are in it.
 fn judge_run(text: &str, all: bool) {
-    let mut ledger = Ledger::new(Table::checked(4, &NET_A).unwrap(), Rules::all());
+    let mut ledger = Ledger::new(Table::checked(4, &NET_A, &[0; 4]).unwrap(), Rules::all());
     let mut lines = text.lines();
     assert_eq!(lines.next(), Some("loaded"));
     for (number, row) in ROWS.iter().enumerate().filter(|(_, row)| all || !matches!(row, Quote(..))) {

@@ -13,7 +13,7 @@ const NET: [u32; 40] = [
 const REQUEST: Request = Request { s: 0, t: 3, units: 1, delay_bound: 9, cost_bound: 20, coefficient: 8 };
 
 fn why(problem: u32, delay: u32, cost: u32, path: &[u32]) -> Option<String> {
-    let ledger = Ledger::new(Table::checked(5, &NET).unwrap(), Rules::all());
+    let ledger = Ledger::new(Table::checked(5, &NET, &[0; 5]).unwrap(), Rules::all());
     judge::grant(&ledger, &REQUEST, 1, 6, &Grant { problem, delay, cost, path: path.to_vec() }).err()
 }
 
@@ -55,7 +55,7 @@ fn another_problem_or_more_than_the_least() {
 fn a_path_of_the_least_delay_that_rounding_rules_out() {
     // With x = 3 links 0, 1 and 2 scale to 1 + 1 + 1 and links 0, 6 and 2 to 1 + 2 + 1, though their cost is within 20.
     let request = Request { coefficient: 3, ..REQUEST };
-    let ledger = Ledger::new(Table::checked(5, &NET).unwrap(), Rules::all());
+    let ledger = Ledger::new(Table::checked(5, &NET, &[0; 5]).unwrap(), Rules::all());
     let grant = Grant { problem: 1, delay: 6, cost: 15, path: vec![0, 1, 2] };
     assert_eq!(judge::grant(&ledger, &request, 1, 6, &grant), Ok(()));
     let grant = Grant { problem: 1, delay: 6, cost: 17, path: vec![0, 6, 2] };

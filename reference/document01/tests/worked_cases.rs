@@ -7,7 +7,7 @@ const NET_A: [u32; 20] = [0, 1, 2, 5, 10, 1, 2, 2, 5, 10, 2, 3, 2, 5, 10, 0, 3, 
 const NET_B: [u32; 20] = [1, 2, 0, 1, 5, 2, 1, 0, 1, 5, 1, 3, 1, 1, 5, 0, 1, 1, 1, 5];
 
 fn ledger(words: &[u32]) -> Ledger {
-    Ledger::new(Table::checked(4, words).unwrap(), Rules::all())
+    Ledger::new(Table::checked(4, words, &[0; 4]).unwrap(), Rules::all())
 }
 
 fn request(units: u32, delay_bound: u32, cost_bound: u32, coefficient: u32) -> Request {
@@ -89,7 +89,7 @@ fn class_tables() {
         rows[place] = number;
         rows
     };
-    let cases: [(Vec<u32>, u32, Result<classes::Row, u32>); 17] = [
+    let cases: [(Vec<u32>, u32, Result<classes::Row, u32>); 19] = [
         (vec![], 0, Err(20)),
         (vec![1; 3], 0, Err(20)),
         (vec![1; 5], 0, Err(20)),
@@ -101,9 +101,11 @@ fn class_tables() {
         (card.repeat(64), 63, Ok(card)),
         (card.repeat(64), 64, Err(16)),
         (with(4, 65_536), 0, Err(21)),
-        (with(5, 31_000_001), 9, Err(21)),
+        (with(5, 61_000_001), 9, Err(21)),
         (with(6, 0), 1, Ok([1, 400, 0, 8])),
         (with(5, 0), 1, Ok([1, 0, 60, 8])),
+        (with(5, 61_000_000), 1, Ok([1, 61_000_000, 60, 8])),
+        (with(6, 31_000_001), 9, Err(21)),
         (with(4, 0), 0, Err(21)),
         (with(7, 9), 0, Err(21)),
         (vec![0; 6], 9, Err(20)),

@@ -4,7 +4,15 @@
 
 mod raw {
     extern "C" {
-        pub fn line_load(n: u32, links: *const u32, link_words: usize, area: *mut u32, area_words: usize) -> u32;
+        pub fn line_load(
+            n: u32,
+            links: *const u32,
+            link_words: usize,
+            holds: *const u32,
+            hold_words: usize,
+            area: *mut u32,
+            area_words: usize,
+        ) -> u32;
         pub fn line_quote(
             area: *const u32,
             area_words: usize,
@@ -69,8 +77,10 @@ pub struct Request {
     pub coefficient: u32,
 }
 
-pub fn load(n: u32, links: &[u32], area: &mut [u32]) -> u32 {
-    unsafe { raw::line_load(n, links.as_ptr(), links.len(), area.as_mut_ptr(), area.len()) }
+pub fn load(n: u32, links: &[u32], holds: &[u32], area: &mut [u32]) -> u32 {
+    unsafe {
+        raw::line_load(n, links.as_ptr(), links.len(), holds.as_ptr(), holds.len(), area.as_mut_ptr(), area.len())
+    }
 }
 
 pub fn quote(area: &[u32], work: &mut [u32], path: &mut [u32], r: &Request, answer: &mut [u32; 4]) -> u32 {

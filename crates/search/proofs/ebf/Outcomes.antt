@@ -37,9 +37,10 @@ use Rattle.search.proofs.Alike.{follow_depends}
 use Rattle.search.proofs.Forward.{follow_short, forward_links, forward_delay, forward_cost, forward_path}
 
 -- the ends that the table's words give are nodes
-pub net_ends : (n m : ℕ) (links : List ℕ) (usable : List Bool) → LinkTable n m links → Ends (net_of n m links usable)
+pub net_ends : (n m : ℕ) (links : List ℕ) (usable : List Bool) (delays costs : List ℕ) → LinkTable n m links delays costs
+    → Ends (net_of n m links usable delays costs)
 unfolding net_of
-net_ends n m links usable h = record { tails = h.words.from; heads = h.words.to }
+net_ends n m links usable delays costs h = record { tails = h.from; heads = h.to }
 
 -- the notes are the trace's, so the pass is the one along the trace
 pub passes : (g : Net) (p : Reduced) (table : List ℕ) (s t : ℕ) (which : Reduction) (path : List ℕ) {next : List ℕ} {w : PartialPath} {after : List ℕ}

@@ -9,6 +9,7 @@
 use compare::files;
 use compare::nets::{net, Net, Style};
 use document01::judge::{self, Grant};
+use document01::table::MOST_NODES;
 use document01::{classes, link_file, Ledger, Reply, Rules, Table};
 use seeded::Random;
 use std::collections::BTreeMap;
@@ -28,7 +29,7 @@ fn class_net(rng: &mut Random) -> Net {
         let slow = rng.pick(&[20, 120, 900]);
         words.extend([from, to, rng.range(0, slow), rng.range(0, 40), rng.pick(&[0, 1, 2, 8, 16, 20])]);
     }
-    Net { n, words, delay_scale: 400, cost_scale: 60, units_scale: 16 }
+    Net { n, words, hold_times: vec![0; n as usize], delay_scale: 400, cost_scale: 60, units_scale: 16 }
 }
 
 /// The bytes of file `number`: link files, damaged ones, tables that Load refuses, long ones.
@@ -63,7 +64,9 @@ fn begun(bytes: &[u8]) -> Result<Ledger, String> {
         return Err("file long".to_string());
     }
     let contents = link_file::read(bytes, 1_280, Rules::all()).map_err(|number| format!("file {number}"))?;
-    let table = Table::checked(contents.n, &contents.words).map_err(|number| format!("load {number}"))?;
+    // The program loads every file without hold times.
+    let no_holds = vec![0; contents.n.min(MOST_NODES) as usize];
+    let table = Table::checked(contents.n, &contents.words, &no_holds).map_err(|number| format!("load {number}"))?;
     Ok(Ledger::new(table, Rules::all()))
 }
 

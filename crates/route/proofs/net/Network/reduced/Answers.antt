@@ -17,13 +17,13 @@ first_listed g q hops m each j low = rw (get_or-take m hops j no_hop low) (each 
 pub invariant_of-result : goal.invariant_of-result
 invariant_of-result c = record {
   fits =
-      weighed_fits _ _ _ _ _ _ _ _ c.args.self.now.table c.requires.terms c.requires.x_le_most_x
+      weighed_fits _ _ _ _ _ _ _ _ _ _ c.args.self.now.table c.requires.terms c.requires.x_le_most_x
       (length-take-le c.args.self.now.links.count c.loop-i.hops (omega (arith, c.loop-i.invariant.whole, c.args.self.now.table.links_most)))
       (first_listed _ _ c.loop-i.hops _ (λ j low. c.loop-i.invariant.listed j (omega (arith, low)))) _ c.by_problem.ensures;
 }
 
 pub returns : goal.returns
 returns c =
-    weighed_reduces _ _ _ _ _ _ _ _ _ refl
+    weighed_reduces _ _ _ _ _ _ _ _ _ _ _ refl
     (length-take-le c.args.self.now.links.count c.loop-i.hops (omega (arith, c.loop-i.invariant.whole, c.args.self.now.table.links_most)))
     refl c.by_problem.ensures refl (first_listed _ _ c.loop-i.hops _ (λ j low. c.loop-i.invariant.listed j (omega (arith, low))))

@@ -1,7 +1,8 @@
--- The area's numbers are tested first; past them its links decide, and both ends of each that fit are nodes.
+-- The area's numbers are tested first, then its links, and both ends of each that fit are nodes; past them the hold times
+-- decide.
 use Rattle.std.proofs.Common.{arith, ◌∙◌}
 use Rattle.std.proofs.lemmas.Grind.{common_steps}
-use Rattle.area.proofs.TableCases.{numbers_out, links_left, ends_low}
+use Rattle.area.proofs.TableCases.{numbers_out, link_out, holds_left, ends_low}
 use Rattle.station.proofs.table.Table.read.Goals as goal
 
 pub returns-then-not-contains-clause-fits : goal.returns-then-not-contains-clause-fits
@@ -9,8 +10,14 @@ returns-then-not-contains-clause-fits c = numbers_out c.args.area.now (grind (ar
 
 pub returns-then-not-links_fit-clause-fits : goal.returns-then-not-links_fit-clause-fits
 returns-then-not-links_fit-clause-fits c =
+    link_out c.args.area.now (grind (arith, common_steps)) (omega arith) _ _ c.links_in-links.ensures.count c.links_in-links.ensures.words
     c.if-not-links_fit.ensures
-    ∙ links_left c.args.area.now (grind (arith, common_steps)) (omega arith) _ _ c.links_in-links.ensures.count c.links_in-links.ensures.words
+
+pub returns-then-not-hold_times_fit-clause-fits : goal.returns-then-not-hold_times_fit-clause-fits
+returns-then-not-hold_times_fit-clause-fits c =
+    c.if-not-hold_times_fit.ensures
+    ∙ holds_left c.args.area.now (grind (arith, common_steps)) (omega arith) _ _ c.links_in-links.ensures.count c.links_in-links.ensures.words
+    c.if-not-links_fit.ensures _ c.hold_times_in.ensures
 
 pub invariant_of-result : goal.invariant_of-result
 invariant_of-result c =
@@ -21,5 +28,6 @@ invariant_of-result c =
 
 pub returns-clause-fits : goal.returns-clause-fits
 returns-clause-fits c =
-    c.if-not-links_fit.ensures
-    ∙ links_left c.args.area.now (grind (arith, common_steps)) (omega arith) _ _ c.links_in-links.ensures.count c.links_in-links.ensures.words
+    c.if-not-hold_times_fit.ensures
+    ∙ holds_left c.args.area.now (grind (arith, common_steps)) (omega arith) _ _ c.links_in-links.ensures.count c.links_in-links.ensures.words
+    c.if-not-links_fit.ensures _ c.hold_times_in.ensures
