@@ -35,8 +35,9 @@ extern "C" {
 #define LINE_TABLE_WORDS 1280
 
 /* Where an area's links, circuits and hold times begin, and the words of a circuit: number, units, link count, path words.
-   The hold time of node v is word LINE_FIRST_HOLD + v. In a well-formed area the first n hold words are at most
-   LINE_MOST_HOLD; the others, up to the 32nd, may be anything. */
+   The hold time of node v is word LINE_FIRST_HOLD + v. In a well-formed area the circuits stand by rising number, and in each
+   the path words past its link count are 0; the first n hold words are at most LINE_MOST_HOLD. Words past the last link, past
+   the last circuit and past the n-th hold time may be anything. */
 #define LINE_FIRST_LINK 3
 #define LINE_FIRST_CIRCUIT 1283
 #define LINE_CIRCUIT_WORDS 34
@@ -123,7 +124,9 @@ uint32_t line_quote(const uint32_t *area, size_t area_words, uint32_t *work, siz
                     uint32_t delay_bound, uint32_t cost_bound, uint32_t coefficient, uint32_t answer[4]);
 
 /*
- * Answers as a quote does, and adds the circuit to the area. Its number must not be held.
+ * Answers as a quote does, and puts the circuit at its place in the area, by rising number: circuits with a higher number
+ * move one place on. Its unused path words are 0. The words past the last circuit are open after, up to word 3,458; n, m,
+ * words 3 to 1,282 and words past 3,458 are not touched. Its number must not be held.
  * Ranges: area_words at least 3,491; work_words at least 16,384; path_words at least 31; circuit 1 to 65,535; s below
  * n; t below n and not s; units 1 to 65,535; delay_bound 0 to 61,000,000; cost_bound 0 to 31,000,000; coefficient 1
  * to 8.
@@ -134,15 +137,16 @@ uint32_t line_admit(uint32_t *area, size_t area_words, uint32_t *work, size_t wo
                     uint32_t delay_bound, uint32_t cost_bound, uint32_t coefficient, uint32_t answer[4]);
 
 /*
- * Releases a circuit: it goes, and the others remain. Its number must be held.
+ * Releases a circuit: it goes, and the others remain; those behind it move one place back, which closes the gap. The same
+ * words are open and the same not touched as after an admission. Its number must be held.
  * Ranges: area_words at least 3,491; circuit 1 to 65,535.
  * Refusals: 5, 13.
  */
 uint32_t line_release(uint32_t *area, size_t area_words, uint32_t circuit);
 
 /*
- * Lists the numbers of the h held circuits, each once and in no set order, in the first words of numbers; answer[0]
- * is h.
+ * Lists the numbers of the h held circuits, rising, in the first words of numbers, as the circuits stand in the area;
+ * answer[0] is h. Words past them keep theirs.
  * Ranges: area_words at least 3,491; number_words at least h, and 64 always suffice.
  * Refusals: 5, 14.
  */

@@ -1,60 +1,18 @@
 /* The cases of hold times of docs/hold-times.md through the C interface: the figures are copied from there. */
-#include <stdio.h>
-#include <string.h>
-
-#include "line.h"
+#include "support.h"
 
 static const uint32_t net_h[30] = {0, 1, 2, 5, 10, 1, 3, 2, 5, 10, 0, 2, 3, 6, 10, 2, 3, 2, 3, 10, 3, 1, 0, 1, 10, 1, 0, 0, 1, 10};
 static const uint32_t none[4] = {0, 0, 0, 0}, inner[4] = {0, 5, 1, 0}, all[4] = {1000000, 5, 1, 1000000};
 static const uint32_t short_path[2] = {0, 1}, cheap_path[2] = {2, 3}, round_path[2] = {3, 4}, instant[2] = {4, 5};
 
-static uint32_t area[LINE_AREA_WORDS], work[LINE_WORK_WORDS], path[LINE_PATH_WORDS], answer[4];
-static int failures;
-
-static void load(uint32_t n, const uint32_t *links, size_t words, const uint32_t *holds)
-{
-    if (line_load(n, links, words, holds, n, area, LINE_AREA_WORDS) != LINE_GRANTED) {
-        printf("load: refused\n");
-        failures++;
-    }
-}
-
-static uint32_t quote(uint32_t s, uint32_t t, uint32_t delay_bound, uint32_t cost_bound, uint32_t coefficient)
-{
-    return line_quote(area, LINE_AREA_WORDS, work, LINE_WORK_WORDS, path, LINE_PATH_WORDS, s, t, 1, delay_bound, cost_bound,
-                      coefficient, answer);
-}
-
-static void refused(const char *name, uint32_t number)
-{
-    if (number != LINE_NO_SOLUTION) {
-        printf("%s: %u, not refused with 10\n", name, (unsigned)number);
-        failures++;
-    }
-}
-
-static void granted(const char *name, uint32_t number, uint32_t problem, uint32_t delay, uint32_t cost, const uint32_t *links,
-                    uint32_t count)
-{
-    const uint32_t expected[4] = {problem, delay, cost, count};
-    if (number != LINE_GRANTED || memcmp(answer, expected, sizeof expected) != 0
-        || memcmp(path, links, count * sizeof *links) != 0) {
-        printf("%s: %u, or another path than by hand\n", name, (unsigned)number);
-        failures++;
-    }
-}
-
 /* H9: the path with less delay is full, and the hold words stay as they are; the inner hold times are loaded. */
 static void booked(void)
 {
-    granted("H9", line_admit(area, LINE_AREA_WORDS, work, LINE_WORK_WORDS, path, LINE_PATH_WORDS, 1, 0, 3, 10, 10, 20, 8, answer),
-            1, 6, 9, cheap_path, 2);
-    granted("H9, links 2 and 3 full", quote(0, 3, 10, 20, 8), 1, 9, 10, short_path, 2);
-    refused("H9, within 8", quote(0, 3, 8, 20, 8));
-    if (line_release(area, LINE_AREA_WORDS, 1) != LINE_GRANTED || memcmp(area + LINE_FIRST_HOLD, inner, sizeof inner) != 0) {
-        printf("H9: not released, or a hold word changed\n");
-        failures++;
-    }
+    granted("H9", admit(1, 0, 3, 10, 10, 20, 8), 1, 6, 9, cheap_path, 2);
+    granted("H9, links 2 and 3 full", quote(0, 3, 1, 10, 20, 8), 1, 9, 10, short_path, 2);
+    refused("H9, within 8", quote(0, 3, 1, 8, 20, 8));
+    expect("H9", line_release(area, LINE_AREA_WORDS, 1) == LINE_GRANTED, "not released");
+    expect("H9", memcmp(area + LINE_FIRST_HOLD, inner, sizeof inner) == 0, "a hold word changed");
 }
 
 /* H6: 32 nodes in a row, every delay and every hold time as long as may be. */
@@ -69,38 +27,38 @@ static void longest(void)
     for (uint32_t v = 0; v < LINE_MOST_NODES; v++)
         holds[v] = 1000000;
     load(LINE_MOST_NODES, row, sizeof row / sizeof *row, holds);
-    granted("H6", quote(0, 31, 61000000, 31000000, 8), 1, 61000000, 0, links, 31);
-    refused("H6, one less", quote(0, 31, 60999999, 31000000, 8));
+    granted("H6", quote(0, 31, 1, 61000000, 31000000, 8), 1, 61000000, 0, links, 31);
+    refused("H6, one less", quote(0, 31, 1, 60999999, 31000000, 8));
 }
 
 int main(void)
 {
     load(4, net_h, 30, none);
-    granted("H1, none", quote(0, 3, 4, 20, 8), 1, 4, 10, short_path, 2);
-    granted("H3, none", quote(0, 3, 8, 10, 1), 1, 4, 10, short_path, 2);
-    granted("H4, none", quote(0, 3, 10, 20, 8), 1, 4, 10, short_path, 2);
-    granted("H7, none", quote(0, 3, 6, 9, 8), 2, 5, 9, cheap_path, 2);
-    granted("H8, none", quote(3, 0, 0, 20, 8), 1, 0, 2, instant, 2);
+    granted("H1, none", quote(0, 3, 1, 4, 20, 8), 1, 4, 10, short_path, 2);
+    granted("H3, none", quote(0, 3, 1, 8, 10, 1), 1, 4, 10, short_path, 2);
+    granted("H4, none", quote(0, 3, 1, 10, 20, 8), 1, 4, 10, short_path, 2);
+    granted("H7, none", quote(0, 3, 1, 6, 9, 8), 2, 5, 9, cheap_path, 2);
+    granted("H8, none", quote(3, 0, 1, 0, 20, 8), 1, 0, 2, instant, 2);
     load(4, net_h, 30, inner);
-    refused("H1", quote(0, 3, 4, 20, 8));
-    granted("H2, node 3 without a hold time", quote(2, 1, 2, 20, 8), 1, 2, 4, round_path, 2);
-    granted("H3", quote(0, 3, 8, 10, 1), 2, 6, 9, cheap_path, 2);
-    granted("H4", quote(0, 3, 10, 20, 8), 1, 6, 9, cheap_path, 2);
-    granted("H5", quote(0, 3, 6, 20, 8), 1, 6, 9, cheap_path, 2);
-    refused("H5, one less", quote(0, 3, 5, 20, 8));
-    refused("H7", quote(0, 3, 6, 9, 8));
-    granted("H7, one more", quote(0, 3, 7, 9, 8), 2, 6, 9, cheap_path, 2);
-    refused("H8", quote(3, 0, 0, 20, 8));
-    granted("H8, the hold time", quote(3, 0, 5, 20, 8), 1, 5, 2, instant, 2);
+    refused("H1", quote(0, 3, 1, 4, 20, 8));
+    granted("H2, node 3 without a hold time", quote(2, 1, 1, 2, 20, 8), 1, 2, 4, round_path, 2);
+    granted("H3", quote(0, 3, 1, 8, 10, 1), 2, 6, 9, cheap_path, 2);
+    granted("H4", quote(0, 3, 1, 10, 20, 8), 1, 6, 9, cheap_path, 2);
+    granted("H5", quote(0, 3, 1, 6, 20, 8), 1, 6, 9, cheap_path, 2);
+    refused("H5, one less", quote(0, 3, 1, 5, 20, 8));
+    refused("H7", quote(0, 3, 1, 6, 9, 8));
+    granted("H7, one more", quote(0, 3, 1, 7, 9, 8), 2, 6, 9, cheap_path, 2);
+    refused("H8", quote(3, 0, 1, 0, 20, 8));
+    granted("H8, the hold time", quote(3, 0, 1, 5, 20, 8), 1, 5, 2, instant, 2);
     booked();
     load(4, net_h, 30, all);
-    refused("H2, as H1", quote(0, 3, 4, 20, 8));
-    granted("H2, as H3", quote(0, 3, 8, 10, 1), 2, 6, 9, cheap_path, 2);
-    granted("H2, as H4", quote(0, 3, 10, 20, 8), 1, 6, 9, cheap_path, 2);
-    granted("H2, one link", quote(0, 1, 2, 20, 8), 1, 2, 5, short_path, 1);
-    granted("H2, by node 3", quote(2, 1, 1000002, 20, 8), 1, 1000002, 4, round_path, 2);
-    refused("H2, by node 3, one less", quote(2, 1, 1000001, 20, 8));
-    granted("H8, no inner node", quote(3, 1, 0, 20, 8), 1, 0, 1, instant, 1);
+    refused("H2, as H1", quote(0, 3, 1, 4, 20, 8));
+    granted("H2, as H3", quote(0, 3, 1, 8, 10, 1), 2, 6, 9, cheap_path, 2);
+    granted("H2, as H4", quote(0, 3, 1, 10, 20, 8), 1, 6, 9, cheap_path, 2);
+    granted("H2, one link", quote(0, 1, 1, 2, 20, 8), 1, 2, 5, short_path, 1);
+    granted("H2, by node 3", quote(2, 1, 1, 1000002, 20, 8), 1, 1000002, 4, round_path, 2);
+    refused("H2, by node 3, one less", quote(2, 1, 1, 1000001, 20, 8));
+    granted("H8, no inner node", quote(3, 1, 1, 0, 20, 8), 1, 0, 1, instant, 1);
     longest();
     return failures != 0;
 }

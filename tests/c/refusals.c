@@ -247,6 +247,44 @@ static void not_well_formed(void)
     refused("free units", line_free_units(area, a, 0, answer), LINE_AREA_NOT_WELL_FORMED);
 }
 
+/* The words of the first two circuits change places. */
+static void exchange(void)
+{
+    uint32_t first[LINE_CIRCUIT_WORDS];
+    memcpy(first, area + 1283, sizeof first);
+    memcpy(area + 1283, area + 1317, sizeof first);
+    memcpy(area + 1317, first, sizeof first);
+}
+
+/* Neighbours exchanged, a number twice and an unused path word that is not 0 each make an area not well formed. Circuits 7 and
+   9 have three links each, so path words 0 1 2 are used and the other 28 are not. */
+static void damaged_circuits(void)
+{
+    static const size_t unused[] = {1289, 1290, 1316, 1323, 1324, 1350};
+    const size_t a = LINE_AREA_WORDS, w = LINE_WORK_WORDS, p = LINE_PATH_WORDS;
+    granted("admit", admit(a, w, p, 9, 3, 1, 8));
+    granted("admit", admit(a, w, p, 7, 3, 1, 8));
+    exchange();
+    not_well_formed();
+    exchange();
+    area[1317] = 7;
+    not_well_formed();
+    area[1317] = 9;
+    for (size_t i = 0; i < sizeof unused / sizeof unused[0]; i++) {
+        area[unused[i]] = 1;
+        not_well_formed();
+        area[unused[i]] = UINT32_MAX;
+        not_well_formed();
+        area[unused[i]] = 0;
+    }
+    fill(area + 1351, 3459 - 1351, UINT32_MAX);
+    ready();
+    granted("list", line_list(area, a, numbers, LINE_MOST_CIRCUITS, answer));
+    granted("release", line_release(area, a, 9));
+    granted("release", line_release(area, a, 7));
+    granted("load", load(net, 20, no_holds, 4, a));
+}
+
 /* A hold time over 1,000,000 makes an area not well formed; hold words past n may be anything. An area that claims 65
    circuits is not well formed, whatever else holds. */
 static void damaged_area(void)
@@ -319,6 +357,7 @@ int main(void)
     admit_refusals();
     other_refusals();
     class_refusals();
+    damaged_circuits();
     damaged_area();
     full_area();
     file_refusals();

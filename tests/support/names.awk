@@ -2,6 +2,7 @@
 # is of a crate, a file of its specs/ or proofs/ and what is defined there; `search.ebf.Table.ebf` has a folder too. A name alone
 # is of the file named before it in its row. Prints each name that is not there, and how many were looked for.
 FNR == 1 {
+    type = ""
     place = FILENAME
     sub(/^crates\//, "", place); sub(/\/(specs|proofs|src)\//, ".", place); sub(/\.(antt|rt)$/, "", place); gsub(/\//, ".", place)
     file = place

@@ -3,7 +3,7 @@
 -- Assumes nothing.
 use Prim.Native.Nat.{ℕ, ◌-◌, ◌≤◌, ◌<◌}
 use mathlib.Core.Path.{◌≡◌, refl}
-use mathlib.Core.Bool.{true, false, ◌&&◌}
+use mathlib.Core.Bool.{true, false}
 use mathlib.Core.List.{List}
 use lib.ListN.{length}
 use borrow.Author.Tests.{le-leb, lt-leb}
@@ -11,9 +11,8 @@ use Rattle.network.specs.Words.{field}
 use Rattle.area.specs.Layout.{area_words, most_circuits}
 use Rattle.area.specs.Station.{links_in, held_in, table_in, station, circuits}
 use Rattle.area.specs.Books.{usage}
-use Rattle.area.specs.Formed.{table_fits, held_fit, units_fit, sound, well_formed}
+use Rattle.area.specs.Formed.{table_fits, circuits_fit, well_formed}
 use Rattle.area.specs.FreeIn.{free_in}
-use Rattle.area.proofs.Found.{held_length}
 
 module _ (w : List ℕ) where
   pub area_short : length w < area_words → false ≡ well_formed w
@@ -22,23 +21,22 @@ module _ (w : List ℕ) where
 
   module _ (long : area_words ≤ length w) where
     pub table_out : false ≡ table_fits (table_in w) → false ≡ well_formed w
-    unfolding well_formed sound station
+    unfolding well_formed
     table_out e = rw (le-leb area_words (length w) long, ← e) refl
 
     module _ (fits : true ≡ table_fits (table_in w)) where
       pub circuits_many : most_circuits < held_in w → false ≡ well_formed w
-      unfolding well_formed sound station
-      circuits_many h =
-          rw (le-leb area_words (length w) long, ← fits, held_length w (held_in w), lt-leb (held_in w) most_circuits h) refl
+      unfolding well_formed
+      circuits_many h = rw (le-leb area_words (length w) long, ← fits, lt-leb (held_in w) most_circuits h) refl
 
       -- the links and their words as the code holds them
       module _ (few : held_in w ≤ most_circuits) (m h : ℕ) (words : List ℕ) (is_m : m ≡ links_in w) (is_words : words ≡ (table_in w).words)
           (is_h : h ≡ held_in w) where
         -- the circuits and their units decide
-        pub circuits_left : (held_fit m words (circuits w h) && units_fit m words (circuits w h)) ≡ well_formed w
-        unfolding well_formed sound station table_in
+        pub circuits_left : circuits_fit m words w h ≡ well_formed w
+        unfolding well_formed
         circuits_left =
-            rw (is_m, is_words, is_h, le-leb area_words (length w) long, ← fits, held_length w (held_in w), le-leb (held_in w) most_circuits few) refl
+            rw (is_m, is_words, is_h, le-leb area_words (length w) long, ← fits, le-leb (held_in w) most_circuits few) refl
 
         -- and what the circuits leave is free
         pub units_left : true ≡ well_formed w → (i : ℕ) → field words i 4 - usage (circuits w h) i ≡ free_in w i

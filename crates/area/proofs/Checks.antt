@@ -56,26 +56,26 @@ checked_made f refuse cs a = go (first_failing cs)
 -- ---- checks with others behind them
 -- a refusal by the checks `cs` alone is one by more checks, and what they grant alone is left to those behind
 module _ {A : Type 0} (cs more : List Check) (a : Reply A) where
-  pub refused_first : (k : ℕ) → refuses k ≡ checked {A = Reply (Unit {0})} refuses cs (grants tt) → refuses k ≡ checked refuses (cs ++ more) a
-  refused_first k e = go (first_failing cs) refl e
+  pub refused_first : {B : Type 0} (b : B) (k : ℕ) → refuses k ≡ checked {A = Reply B} refuses cs (grants b) → refuses k ≡ checked refuses (cs ++ more) a
+  refused_first {B = B} b k e = go (first_failing cs) refl e
     where
       kept : (l : List Check) (j : ℕ) → first_failing l ≡ suc j → first_failing (l ++ more) ≡ suc j
       kept [] j e = absurd (zero_one cc)
       kept (c ∷ l) j e = by_bool c.passes (λ q. rw q (kept l j (rw q at e))) (λ q. rw q (rw q at e))
 
-      go : (n : ℕ) → first_failing cs ≡ n → refuses k ≡ unless_refused {A = Reply (Unit {0})} refuses (grants tt) n → refuses k ≡ checked refuses (cs ++ more) a
+      go : (n : ℕ) → first_failing cs ≡ n → refuses k ≡ unless_refused {A = Reply B} refuses (grants b) n → refuses k ≡ checked refuses (cs ++ more) a
       go zero is e = absurd (zero_one cc)
       go (suc j) is e = let same : k ≡ suc j = cc in rw (same, kept cs j is) refl
 
-  pub granted_first : over_zero cs ≡ true → grants tt ≡ checked {A = Reply (Unit {0})} refuses cs (grants tt)
+  pub granted_first : {B : Type 0} (b d : B) → over_zero cs ≡ true → grants d ≡ checked {A = Reply B} refuses cs (grants b)
       → checked refuses more a ≡ checked refuses (cs ++ more) a
-  granted_first over e = ap (unless_refused refuses a) (sym (passed cs (each_passes cs over (go (first_failing cs) refl e))))
+  granted_first {B = B} b d over e = ap (unless_refused refuses a) (sym (passed cs (each_passes cs over (go (first_failing cs) refl e))))
     where
       passed : (l : List Check) → All (λ (c : Check). c.passes ≡ true) l → first_failing (l ++ more) ≡ first_failing more
       passed [] ok = refl
       passed (c ∷ l) ok = rw ok.0 (passed l ok.1)
 
-      go : (n : ℕ) → first_failing cs ≡ n → grants tt ≡ unless_refused {A = Reply (Unit {0})} refuses (grants tt) n → first_failing cs ≡ 0
+      go : (n : ℕ) → first_failing cs ≡ n → grants d ≡ unless_refused {A = Reply B} refuses (grants b) n → first_failing cs ≡ 0
       go zero is e = is
       go (suc j) is e = absurd (zero_one cc)
 

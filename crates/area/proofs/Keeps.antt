@@ -8,16 +8,16 @@ use Prim.Native.Nat.{ℕ, ◌+◌, ◌≤◌, ◌<◌}
 use native.Mathlib.Omega.{arith}
 use lib.Dec.{eqb}
 use lib.ListN.{length}
-use borrow.Author.Tests.{eqb-true, eqb-false, ne_eqb, not-true}
+use borrow.Author.Tests.{ne_eqb, not-true}
 use Rattle.network.specs.Lists.{All, memb, distinctb, Distinct}
 use Rattle.network.proofs.Tests.{by_test, fst_of}
-use Rattle.network.proofs.Paths.{apart, distinct_test}
+use Rattle.network.proofs.Paths.{distinct_test}
 use Rattle.area.specs.Layout.{most_circuits}
 use Rattle.area.specs.Station.{Circuit, Station, capacity_of}
 use Rattle.area.specs.Books.{units_on, usage, numbers, holds, free}
 use Rattle.area.specs.Formed.{CircuitFits, SoundStation}
 use Rattle.area.specs.Moves.{without, with_circuit, without_number}
-use Rattle.area.proofs.Each.{images_each, each_image}
+use Rattle.area.proofs.Order.{usage_placed, count_placed, each_placed, rising_placed, without_by, rising_without}
 
 -- ---- a circuit more
 -- a circuit that fits, with a number of its own and units that are free on its links
@@ -28,10 +28,10 @@ pub sound_added : (s : Station) (c : Circuit) → SoundStation s → length s.he
 sound_added s c h room fits other enough =
     record {
       table = h.table;
-      few = room;
-      each = (fits, h.each);
-      differ = (apart c.number (numbers s.held) other, h.differ);
-      within = within;
+      few = omega (arith, room, count_placed c s.held);
+      each = each_placed (CircuitFits s.table) c s.held fits h.each;
+      rising = rising_placed c s.held h.rising other;
+      within = λ i low. omega (arith, usage_placed c s.held i, within i low);
     }
   where
     within : (i : ℕ) → i < s.table.links → units_on c i + usage s.held i ≤ capacity_of s.table i
@@ -40,43 +40,27 @@ sound_added s c h room fits other enough =
         (λ e. omega (arith, enough i e, h.within i low)) (λ e. omega (arith, h.within i low))
 
 -- ---- a circuit less
--- `without` at a circuit, by its two cases
-module _ (k : ℕ) (c : Circuit) (l : List Circuit) (P : List Circuit → Type 0) where
-  at_head : (k ≡ c.number → P (without k l)) → ((k ≡ c.number → ⊥) → P (c ∷ without k l)) → P (without k (c ∷ l))
-  at_head same other =
-      by_test (eqb k c.number) (without k l) (c ∷ without k l) P (λ e. same (eqb-true k c.number e)) (λ e. other (eqb-false k c.number e))
-
 fewer : (k : ℕ) (l : List Circuit) → length (without k l) ≤ length l
 fewer k [] = omega arith
-fewer k (c ∷ l) = at_head k c l (λ m. length m ≤ length (c ∷ l)) (λ e. omega (arith, fewer k l)) (λ e. omega (arith, fewer k l))
+fewer k (c ∷ l) = without_by k c l (λ m. length m ≤ length (c ∷ l)) (λ e. omega (arith, fewer k l)) (λ e. omega (arith, fewer k l))
 
 each_without : (P : Circuit → Type 0) (k : ℕ) (l : List Circuit) → All P l → All P (without k l)
 each_without P k [] h = tt
-each_without P k (c ∷ l) h = at_head k c l (All P) (λ e. each_without P k l h.1) (λ e. (h.0, each_without P k l h.1))
-
-numbers_without : (P : ℕ → Type 0) (k : ℕ) (l : List Circuit) → All P (numbers l) → All P (numbers (without k l))
-numbers_without P k l h =
-    each_image (λ c. c.number) P (without k l) (each_without (λ c. P c.number) k l (images_each (λ c. c.number) P l h))
-
-differ_without : (k : ℕ) (l : List Circuit) → Distinct (numbers l) → Distinct (numbers (without k l))
-differ_without k [] h = tt
-differ_without k (c ∷ l) h =
-    at_head k c l (λ m. Distinct (numbers m)) (λ e. differ_without k l h.1)
-    (λ e. (numbers_without (λ b. c.number ≡ b → ⊥) k l h.0, differ_without k l h.1))
+each_without P k (c ∷ l) h = without_by k c l (All P) (λ e. each_without P k l h.1) (λ e. (h.0, each_without P k l h.1))
 
 usage_without : (k : ℕ) (l : List Circuit) (i : ℕ) → usage (without k l) i ≤ usage l i
 usage_without k [] i = omega arith
 usage_without k (c ∷ l) i =
-    at_head k c l (λ m. usage m i ≤ usage (c ∷ l) i) (λ e. omega (arith, usage_without k l i)) (λ e. omega (arith, usage_without k l i))
+    without_by k c l (λ m. usage m i ≤ usage (c ∷ l) i) (λ e. omega (arith, usage_without k l i)) (λ e. omega (arith, usage_without k l i))
 
--- the circuits that are left fit as before, differ as before, and take no more units
+-- the circuits that are left fit as before, rise as before, and take no more units
 pub sound_removed : (s : Station) (k : ℕ) → SoundStation s → SoundStation (without_number s k)
 sound_removed s k h =
     record {
       table = h.table;
       few = omega (arith, fewer k s.held, h.few);
       each = each_without (CircuitFits s.table) k s.held h.each;
-      differ = differ_without k s.held h.differ;
+      rising = rising_without k s.held h.rising;
       within = λ i low. omega (arith, usage_without k s.held i, h.within i low);
     }
 
@@ -100,7 +84,7 @@ unheld_stays s k e =
 pub without_one : (k : ℕ) (l : List Circuit) → Distinct (numbers l) → holds l k ≡ true → length (without k l) + 1 ≡ length l
 without_one k [] h e = absurd (false≢true e)
 without_one k (c ∷ l) h e =
-    at_head k c l (λ m. length m + 1 ≡ length (c ∷ l)) (λ q. omega (arith, ap (λ (m : List Circuit). length m) (without_none k l (rest q))))
+    without_by k c l (λ m. length m + 1 ≡ length (c ∷ l)) (λ q. omega (arith, ap (λ (m : List Circuit). length m) (without_none k l (rest q))))
     (λ q. let on = without_one k l h.1 (rw (ne_eqb k c.number q) at e) in omega (arith, on))
   where
     rest : k ≡ c.number → holds l k ≡ false
@@ -110,12 +94,12 @@ without_one k (c ∷ l) h e =
 pub without_gone : (k : ℕ) (l : List Circuit) → holds (without k l) k ≡ false
 without_gone k [] = refl
 without_gone k (c ∷ l) =
-    at_head k c l (λ m. holds m k ≡ false) (λ q. without_gone k l) (λ q. rw (ne_eqb k c.number q) (without_gone k l))
+    without_by k c l (λ m. holds m k ≡ false) (λ q. without_gone k l) (λ q. rw (ne_eqb k c.number q) (without_gone k l))
 
 -- every other number is held as before
 pub without_others : (k j : ℕ) (l : List Circuit) → (k ≡ j → ⊥) → holds (without k l) j ≡ holds l j
 without_others k j [] ne = refl
 without_others k j (c ∷ l) ne =
-    at_head k c l (λ m. holds m j ≡ holds (c ∷ l) j)
+    without_by k c l (λ m. holds m j ≡ holds (c ∷ l) j)
     (λ q. rw (ne_eqb j c.number (λ z. ne (q ∙ sym z))) (without_others k j l ne))
     (λ q. ap (λ (b : Bool). eqb j c.number || b) (without_others k j l ne))

@@ -8,12 +8,14 @@ pub mod Found
 mod PathTest
 pub mod Formed
 mod StationWords
+pub mod Places
 pub mod Added
 pub mod Removed
 pub mod FreeUnits
 pub mod Holds
 pub mod Keeps
 pub mod Order
+pub mod SameWords
 pub mod Stores
 pub mod Refusals
 pub mod Checks

@@ -16,7 +16,7 @@ use Rattle.network.specs.Lists.{All}
 use Rattle.network.proofs.Tests.{fst_of, snd_of, zero_one}
 use Rattle.network.proofs.Ranges.{range_says}
 use Rattle.area.specs.Layout.{area_words, first_hold, first_link, table_words}
-use Rattle.area.specs.Station.{words_at, station, table_in}
+use Rattle.area.specs.Station.{words_at, held_in, station, table_in}
 use Rattle.area.specs.Formed.{HoldTimesFit, SoundStation, WellFormed}
 use Rattle.area.specs.Checks.{Check, first_failing}
 use Rattle.area.specs.Refusals.{Reply, refuses, grants}
@@ -105,6 +105,9 @@ module _ (w : List ℕ) (input : LoadInput) where
             ∙ words_list (loaded w input) first_hold input.hold_times λ i low.
             sets_in linked first_hold input.hold_times i (omega (arith, linked_long (omega (arith, few, long)), long, holds_fit.count, nodes.1)) low
 
+    none_held : held_in (loaded w input) ≡ 0
+    none_held = before 2 (omega arith)
+
     -- a table that passed the checks, with no circuit, is sound
     fresh_sound : SoundStation (fresh input)
     fresh_sound =
@@ -118,7 +121,7 @@ module _ (w : List ℕ) (input : LoadInput) where
           };
           few = omega arith;
           each = tt;
-          differ = tt;
+          rising = tt;
           within = λ i low. omega arith;
         }
 
@@ -128,6 +131,7 @@ module _ (w : List ℕ) (input : LoadInput) where
         record {
           long = omega (arith, loaded_long (omega (arith, few, long)), long);
           sound = subst SoundStation (sym loaded_station) fresh_sound;
+          clear = λ j low. absurd (omega (arith, low, none_held));
         }
 
   -- ---- by Load's answer, and the area that it leaves

@@ -1,7 +1,7 @@
 -- Words stored one after another from a place on: those before it and past the last one stay.
 -- Assumes nothing.
 use mathlib.Core.Path.{◌≡◌, refl, ◌∙◌}
-use mathlib.Core.List.{List, [], ◌∷◌}
+use mathlib.Core.List.{List, [], ◌∷◌, ◌++◌}
 use Prim.Native.Nat.{ℕ, zero, suc, ◌+◌, ◌≤◌, ◌<◌}
 use native.Mathlib.Nat.{add-zero, add-suc, suc-add}
 use native.Mathlib.Omega.{arith}
@@ -22,3 +22,8 @@ sets_in l a (v ∷ vs) (suc i) fits h =
 pub sets_past : (l : List ℕ) (a : ℕ) (vs : List ℕ) (i : ℕ) → a + length vs ≤ i → get_or (sets l a vs) i 0 ≡ get_or l i 0
 sets_past l a [] i h = refl
 sets_past l a (v ∷ vs) i h = sets_past (set l a v) (suc a) vs i (omega arith) ∙ get_or-set_other l a i v 0 (omega arith)
+
+-- two lists stored one behind the other
+pub sets_both : (l : List ℕ) (a : ℕ) (vs us : List ℕ) → sets l a (vs ++ us) ≡ sets (sets l a vs) (a + length vs) us
+sets_both l a [] us = rw add-zero
+sets_both l a (v ∷ vs) us = rw (add-suc, ← suc-add a (length vs)) (sets_both (set l a v) (suc a) vs us)

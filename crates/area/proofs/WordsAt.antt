@@ -2,9 +2,9 @@
 -- are equal because they agree word by word.
 -- Assumes nothing.
 use mathlib.Core.Path.{◌≡◌, refl, sym, ap, ◌∙◌}
-use mathlib.Core.List.{List, ◌∷◌}
+use mathlib.Core.List.{List, ◌∷◌, ◌++◌}
 use Prim.Native.Nat.{ℕ, zero, suc, ◌+◌, ◌≤◌, ◌<◌}
-use native.Mathlib.Nat.{add-zero, add-suc, suc-add}
+use native.Mathlib.Nat.{add-zero, zero-add, add-suc, suc-add}
 use native.Mathlib.Omega.{arith}
 use lib.ListN.{length, get_or, take, drop}
 use lib.Seq.{drop-cons, ext_get_or}
@@ -39,3 +39,8 @@ words_list w a p h =
 pub words_part : (w : List ℕ) (a n : ℕ) → a + n ≤ length w → take n (drop a w) ≡ words_at w a n
 words_part w a zero fits = refl
 words_part w a (suc n) fits = rw (drop-cons w a 0 (omega arith)) (ap (λ l. get_or w a 0 ∷ l) (words_part w (suc a) n (omega arith)))
+
+-- a run of words and the run behind it
+pub words_more : (w : List ℕ) (a n m : ℕ) → words_at w a (n + m) ≡ words_at w a n ++ words_at w (a + n) m
+words_more w a zero m = rw (add-zero, zero-add) refl
+words_more w a (suc n) m = rw (suc-add n m, add-suc a n, ← suc-add a n) (ap (λ (l : List ℕ). get_or w a 0 ∷ l) (words_more w (suc a) n m))

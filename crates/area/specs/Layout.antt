@@ -17,12 +17,16 @@ first_link = 3
 abbrev pub table_words : ℕ
 table_words = link_words * most_links
 
--- where the circuits begin, the words of one (number, units, link count, path words), and how many may be held
+-- where the circuits begin, the words of one (number, units, link count, path words), where among these its path words
+-- begin, and how many circuits may be held
 abbrev pub first_circuit : ℕ
 first_circuit = 1283
 
 abbrev pub circuit_words : ℕ
 circuit_words = 34
+
+abbrev pub path_start : ℕ
+path_start = 3
 
 abbrev pub most_circuits : ℕ
 most_circuits = 64
@@ -47,6 +51,7 @@ figures =
       table_words = table_words;
       first_circuit = first_circuit;
       circuit_words = circuit_words;
+      path_start = path_start;
       most_circuits = most_circuits;
       first_hold = first_hold;
       least_number = least_number;

@@ -1,17 +1,26 @@
 -- The area with a circuit more, and with one less; and what that does to the list of circuits.
 -- Assumes nothing.
-use Rattle.std.specs.Prelude.{ℕ, zero, suc, ◌+◌, ◌*◌, ◌-◌, ◌≤◌, ◌<◌, ◌≡◌, cond, List, [], ◌∷◌, eqb, length, get_or, set}
+use Rattle.std.specs.Prelude.{ℕ, zero, suc, ◌+◌, ◌*◌, ◌-◌, ◌≤◌, ◌<◌, ◌≡◌, cond, List, [], ◌∷◌, ◌++◌, eqb, length, get_or, set, replicate}
 use Rattle.std.proofs.lemmas.List.Edits.{sets}
+use Rattle.network.specs.Limits.{most_path_links}
 use Rattle.area.specs.Layout.{circuit_words, first_circuit, first_link, most_circuits}
 use Rattle.area.specs.Station.{Circuit, Station, place, nodes_in, links_in, held_in}
+use Rattle.area.specs.Order.{placed}
 
--- a circuit as the words of the area hold it; the path words past its links keep what they held
+-- a circuit as the words of the area hold it: its number, its units, how many links, their numbers, and 0 in each path word
+-- that is left
 abbrev pub words_of : Circuit → List ℕ
-words_of c = c.number ∷ c.units ∷ length c.path ∷ c.path
+words_of c = c.number ∷ c.units ∷ length c.path ∷ c.path ++ replicate (most_path_links - length c.path) 0
 
--- the circuit stands behind the last one, and one more is held
-unfoldable pub added : List ℕ → Circuit → List ℕ
-added w c = set (sets w (place (held_in w)) (words_of c)) 2 (held_in w + 1)
+-- n words from place a on each overwrite the word a circuit after it, the last one first
+unfoldable pub opened : List ℕ → ℕ → ℕ → List ℕ
+opened w a zero = w
+opened w a (suc n) = opened (set w (a + n + circuit_words) (get_or w (a + n) 0)) a n
+
+-- the circuit stands at place j, those from there on one place further on, and one more is held
+unfoldable pub added : List ℕ → ℕ → Circuit → List ℕ
+unfolding opened
+added w j c = set (sets (opened w (place j) (circuit_words * (held_in w - j))) (place j) (words_of c)) 2 (held_in w + 1)
 
 -- n words from place a on are each overwritten by the word a circuit after it
 unfoldable pub closed : List ℕ → ℕ → ℕ → List ℕ
@@ -28,9 +37,9 @@ abbrev pub without : ℕ → List Circuit → List Circuit
 without k [] = []
 without k (c ∷ cs) = cond (eqb k c.number) (without k cs) (c ∷ without k cs)
 
--- a station with a circuit more, and without the circuit with number k
+-- a station with a circuit more, at its place, and without the circuit with number k
 abbrev pub with_circuit : Station → Circuit → Station
-with_circuit s c = record { table = s.table; held = c ∷ s.held }
+with_circuit s c = record { table = s.table; held = placed c s.held }
 
 abbrev pub without_number : Station → ℕ → Station
 without_number s k = record { table = s.table; held = without k s.held }

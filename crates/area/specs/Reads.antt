@@ -2,8 +2,8 @@
 -- Assumes nothing.
 use Rattle.std.specs.Prelude.{ℕ, ◌<◌, ◌≡◌, List, [], ◌∷◌, ◌++◌, ltb, leb, length, drop}
 use Rattle.area.specs.Station.{station, links_in, held_in}
-use Rattle.area.specs.Books.{free}
-use Rattle.area.specs.Held.{numbers_from, ListsHeld}
+use Rattle.area.specs.Books.{free, numbers}
+use Rattle.area.specs.Held.{ListsHeld}
 use Rattle.area.specs.Formed.{WellFormed, well_formed}
 use Rattle.area.specs.Refusals.{Rule, ◌when◌, Reply, refuses, grants, Answered}
 use Rattle.area.specs.Checks.{Check, ◌unless◌, checked}
@@ -17,10 +17,10 @@ unfoldable pub list_answer : List ℕ → ℕ → Reply ℕ
 unfolding well_formed
 list_answer w buffer = checked refuses (list_checks w buffer) (grants (held_in w))
 
--- the h numbers in the first words; the words past them keep theirs
+-- the h numbers in the first words, in the order of the circuits, which is rising; the words past them keep theirs
 unfoldable pub listed : List ℕ → List ℕ → List ℕ
-unfolding well_formed
-listed w l = checked (λ _. l) (list_checks w (length l)) (numbers_from w 0 (held_in w) ++ drop (held_in w) l)
+unfolding well_formed station
+listed w l = checked (λ _. l) (list_checks w (length l)) (numbers (station w).held ++ drop (held_in w) l)
 
 -- ---- what a listing means, with no algorithm
 -- the answer and the buffer after, for a reply that grants these numbers: how many they are, and the numbers in the first
@@ -37,7 +37,7 @@ abbrev pub list_rules : List ℕ → ℕ → List Rule
 list_rules w buffer = (5 when (WellFormed w → ⊥)) ∷ (14 when buffer < length (station w).held) ∷ []
 
 -- `said` is what a listing into the buffer l answers, and l' what it leaves there: there is a reply that the rules allow, the
--- held circuits' numbers in any order, and these are its answer and its buffer
+-- held circuits' numbers, rising, and these are its answer and its buffer
 pub record ListMeans (w l : List ℕ) (said : Reply ℕ) (l' : List ℕ) : Type 0 where
   pub reply : Reply (List ℕ)
   pub allowed : Answered (ListsHeld (station w).held) (list_rules w (length l)) reply

@@ -3,8 +3,9 @@
 -- Assumes nothing.
 use Rattle.std.specs.Prelude.{ℕ, zero, suc, ◌+◌, ◌*◌, List, [], ◌∷◌, get_or}
 use Rattle.network.specs.Limits.{link_words}
+use Rattle.network.specs.Lists.{from}
 use Rattle.network.specs.Words.{field}
-use Rattle.area.specs.Layout.{circuit_words, first_circuit, first_hold, first_link}
+use Rattle.area.specs.Layout.{circuit_words, first_circuit, first_hold, first_link, path_start}
 
 -- what loading fixes: the nodes, how many links, the links' words and each node's hold time
 pub record Table : Type 0 where
@@ -54,15 +55,18 @@ place j = first_circuit + circuit_words * j
 
 -- a circuit's words: number, units, link count, then the path
 unfoldable pub circuit_of : List ℕ → Circuit
-circuit_of c = record { number = get_or c 0 0; units = get_or c 1 0; path = words_at c 3 (get_or c 2 0) }
+circuit_of c = record { number = get_or c 0 0; units = get_or c 1 0; path = words_at c path_start (get_or c 2 0) }
+
+-- the words of the circuit at place j, and the circuit that they say
+abbrev pub words_in : List ℕ → ℕ → List ℕ
+words_in w j = words_at w (place j) circuit_words
 
 abbrev pub circuit_at : List ℕ → ℕ → Circuit
-circuit_at w j = circuit_of (words_at w (place j) circuit_words)
+circuit_at w j = circuit_of (words_in w j)
 
--- the first h circuits, the last one first, so that an admission puts one in front
+-- the first h circuits, in the order of their places
 abbrev pub circuits : List ℕ → ℕ → List Circuit
-circuits w zero = []
-circuits w (suc j) = circuit_at w j ∷ circuits w j
+circuits w h = from (circuit_at w) 0 h
 
 -- word 0 is n, word 1 is m, word 2 is h; links begin at word 3, and behind the circuits stand the hold times
 abbrev pub nodes_in : List ℕ → ℕ
@@ -82,6 +86,10 @@ table_in w =
       words = words_at w first_link (link_words * links_in w);
       hold_times = words_at w first_hold (nodes_in w);
     }
+
+-- the first 34 × h words of circuits, in which the held ones stand
+abbrev pub held_words : List ℕ → List ℕ
+held_words w = words_at w first_circuit (circuit_words * held_in w)
 
 unfoldable pub station : List ℕ → Station
 station w = record { table = table_in w; held = circuits w (held_in w) }

@@ -15,6 +15,7 @@ pub struct Layout {
     pub table_words: usize,
     pub first_circuit: usize,
     pub circuit_words: usize,
+    pub path_start: usize,
     pub most_circuits: usize,
     pub first_hold: usize,
     pub least_number: u32,

@@ -14,7 +14,8 @@ use station::{Station, layout, store};
 // 5, 6, 7, 8, 11, 12, 9 and 10 in this order; else it answers as a quote does and adds the circuit. Work memory is open
 // after.
 // `means` says of this answer, this path buffer and this area what document 01 says: the first rule that applies refuses and
-// changes nothing, a grant is a best path of its problem, and its circuit is then held beside the others.
+// changes nothing, a grant is a best path of its problem, and its circuit then stands at its place
+// among the others.
 pub fn admit(
     area: &mut [u32],
     work: &mut [u32],
@@ -29,10 +30,10 @@ pub fn admit(
 {
     let station = Station::read(area)?;
     check_request(&station, work.len(), path.len(), r)?;
-    check_number(&station, circuit)?;
+    let j = check_number(&station, circuit)?;
     let grant = find_path(&station, work, path, r)?;
     let links = layout::part(path, 0, grant.links as usize);
-    store::add(area, circuit, r.terms.units, links);
+    store::add(area, j, circuit, r.terms.units, links);
     Ok(grant)
 }
 
@@ -44,9 +45,11 @@ pub fn release(area: &mut [u32], number: u32) -> Result<(), Refusal>
     ensures area { area.new ≡ cleared area.old number (release area.old number) }
     ensures means { ReleaseMeans area.old number (numbered result) area.new }
 {
-    let Some(j) = Station::read(area)?.find(number) else {
+    let station = Station::read(area)?;
+    let j = station.place_of(number);
+    if !station.holds(number, j) {
         return Err(Refusal::NotHeld);
-    };
+    }
     store::remove(area, j);
     Ok(())
 }

@@ -4,7 +4,7 @@ ghost use Rattle.std.specs.Prelude.{◌≡◌};
 ghost use Rattle.area.specs.Refusals.{numbered};
 ghost use Rattle.rules.specs.Calls.{request_checked, number_checked};
 
-use crate::request::{number_fits, request_fits};
+use crate::request::{number_in_range, request_fits};
 use area::Refusal;
 use network::Request;
 use network::limits::{PATH_WORDS, WORK_WORDS};
@@ -31,15 +31,16 @@ pub fn check_request(
     Ok(())
 }
 
-// The first of 11 and 12 that applies to a circuit of this number.
-pub fn check_number(station: &Station<'_>, number: u32) -> Result<(), Refusal>
+// The first of 11 and 12 that applies to a circuit of this number, else its place.
+pub fn check_number(station: &Station<'_>, number: u32) -> Result<usize, Refusal>
     ensures { numbered result ≡ number_checked station.now.area.now number }
 {
-    if !number_fits(station, number) {
+    let j = station.place_of(number);
+    if !number_in_range(number) || station.holds(number, j) {
         return Err(Refusal::CircuitNumber);
     }
     if layout::MOST_CIRCUITS <= station.held() {
         return Err(Refusal::CircuitsFull);
     }
-    Ok(())
+    Ok(j)
 }

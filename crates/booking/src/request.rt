@@ -1,12 +1,12 @@
-// The ranges of a request, and which circuit numbers an admission takes.
+// The ranges of a request and of a circuit number.
 ghost use Rattle.std.specs.Prelude.{◌≡◌};
+ghost use Rattle.network.specs.Ranges.{in_range};
+ghost use Rattle.area.specs.Layout.{least_number, most_number};
 ghost use Rattle.rules.specs.Requests.{request_fits};
-ghost use Rattle.rules.specs.Calls.{number_fits};
-ghost use Rattle.rules.specs.Meaning.{books_in};
 
 use links::terms::terms_fit;
 use network::Request;
-use station::{Station, layout};
+use station::layout;
 
 // Whether `r` is a request among `n` nodes.
 #[tactic(auto, unfolding(rules::specs::Requests::request_fits))]
@@ -16,10 +16,9 @@ pub fn request_fits(n: usize, r: Request) -> bool
     (r.source as usize) < n && (r.target as usize) < n && r.source != r.target && terms_fit(r.terms)
 }
 
-// Whether an admission may take this circuit number: it is in its range and not held.
-#[tactic(auto, unfolding(rules::specs::Calls::number_fits))]
-pub fn number_fits(station: &Station<'_>, number: u32) -> bool
-    ensures { result ≡ number_fits (books_in station.now.area.now) number }
+// Whether this is a circuit number.
+pub fn number_in_range(number: u32) -> bool
+    ensures { result ≡ in_range least_number most_number number }
 {
-    (layout::LEAST_NUMBER..=layout::MOST_NUMBER).contains(&number) && station.find(number).is_none()
+    (layout::LEAST_NUMBER..=layout::MOST_NUMBER).contains(&number)
 }

@@ -2,7 +2,7 @@
 -- from any other, since by the theorem of the crate `ledger` it makes no difference what an area held before it was loaded.
 -- Assumes nothing.
 use Prim.Native.Nat.{ℕ, ◌≤◌}
-use mathlib.Core.Path.{◌≡◌, refl, ap, ◌∙◌, subst}
+use mathlib.Core.Path.{◌≡◌, refl, ap, ◌∙◌}
 use mathlib.Core.Bool.{true, false}
 use mathlib.Core.List.{List}
 use native.Mathlib.Omega.{arith}
@@ -20,7 +20,6 @@ use Rattle.search.specs.Result.{outcome}
 use Rattle.area.specs.Refusals.{grants}
 use Rattle.area.specs.Layout.{area_words}
 use Rattle.area.specs.Station.{table_in, circuit_of}
-use Rattle.area.specs.Order.{Same, next}
 use Rattle.area.specs.Load.{load_answer, area_loaded}
 use Rattle.rules.specs.Calls.{quote, admission, booked, release, cleared}
 use Rattle.ledger.specs.History.{answers, path_given, bookings, remaining}
@@ -42,19 +41,21 @@ blank_accepted = load_accepts blank (omega (arith, length-replicate {A = ℕ} ar
 -- ---- from any area that is long enough
 module _ (w : List ℕ) (long : area_words ≤ length w) where
   same : (answers (area_loaded w (unheld links_a)) (calls false) ≡ remaining (none_struck (calls false)) (answers (area_loaded blank (unheld links_a)) (calls false)))
-      × Same (bookings (end_of false w)) (bookings (end_of false blank))
-  same = (third_demand (unheld links_a) blank blank_accepted (calls false)).struck w (load_accepts w long) (calls false) (none_struck (calls false))
+      × (bookings (end_of false w) ≡ bookings (end_of false blank))
+  same =
+      let both = (third_demand (unheld links_a) blank blank_accepted (calls false)).struck w (load_accepts w long) (calls false) (none_struck (calls false)) in
+      (both.0, both.1)
 
   -- the first run
   pub answers_expected : answers (area_loaded w (unheld links_a)) (calls false) ≡ expected
   answers_expected = same.0 ∙ all_remain (area_loaded blank (unheld links_a)) (calls false) ∙ computed.0
 
-  pub bookings_expected : Same (bookings (end_of false w)) held
-  bookings_expected = subst (Same (bookings (end_of false w))) computed.1 same.1
+  pub bookings_expected : bookings (end_of false w) ≡ held
+  bookings_expected = same.1 ∙ computed.1
 
   -- the second run: of these answers those to the calls that remain, and the same bookings
   pub remaining_expected : answers (area_loaded w (unheld links_a)) (calls true) ≡ remaining (struck_calls 0 25) expected
   remaining_expected = (runs_agree w w long long).0 ∙ ap (remaining (struck_calls 0 25)) answers_expected
 
-  pub same_expected : Same (bookings (end_of true w)) held
-  same_expected = next (runs_agree w w long long).1 bookings_expected
+  pub same_expected : bookings (end_of true w) ≡ held
+  same_expected = (runs_agree w w long long).1 ∙ bookings_expected

@@ -13,7 +13,7 @@ use Rattle.area.specs.Refusals.{grants}
 use Rattle.area.specs.Layout.{area_words}
 use Rattle.network.specs.Loops.{every}
 use Rattle.area.specs.Formed.{links_fit, hold_times_fit}
-use Rattle.area.specs.Order.{Same}
+use Rattle.area.specs.Station.{held_words}
 use Rattle.area.specs.Load.{load_answer, area_loaded}
 use Rattle.area.proofs.LoadCases.{all_pass}
 use Rattle.ledger.specs.History.{Lending, measured, answers, area_at_end, bookings, Struck, end, strike, keep, remaining}
@@ -81,11 +81,13 @@ abbrev pub end_of : Bool → List ℕ → List ℕ
 end_of struck w = area_at_end (area_loaded w (unheld links_a)) (calls struck)
 
 module _ (w v : List ℕ) where
-  -- the answers of the second run are the remaining ones of the first, and the bookings at the end are the same
+  -- the answers of the second run are the remaining ones of the first, and the bookings at the end are the same, in the same
+  -- words
   abbrev pub Agree : Type 0
   Agree =
       (answers (area_loaded v (unheld links_a)) (calls true) ≡ remaining (struck_calls 0 25) (answers (area_loaded w (unheld links_a)) (calls false)))
-      × Same (bookings (end_of true v)) (bookings (end_of false w))
+      × (bookings (end_of true v) ≡ bookings (end_of false w))
+      × (held_words (end_of true v) ≡ held_words (end_of false w))
 
   pub accepted_agree : load_answer w (unheld links_a) ≡ grants tt → load_answer v (unheld links_a) ≡ grants tt → Agree
   unfolding calls
@@ -98,5 +100,7 @@ module _ (w v : List ℕ) where
 
   -- of the areas w' and v' that the program leaves
   pub same_bookings : (w' v' : List ℕ) → load_answer w (unheld links_a) ≡ grants tt → load_answer v (unheld links_a) ≡ grants tt → w' ≡ end_of false w → v' ≡ end_of true v
-      → Same (bookings v') (bookings w')
-  same_bookings w' v' accepted accepted' e f = rw (e, f) (accepted_agree accepted accepted').1
+      → (bookings v' ≡ bookings w') × (held_words v' ≡ held_words w')
+  same_bookings w' v' accepted accepted' e f =
+      let both = accepted_agree accepted accepted' in
+      rw (e, f) (both.1, both.2)

@@ -62,6 +62,6 @@ expected =
 abbrev circuit : ℕ → ℕ → List ℕ → Circuit
 circuit c u p = record { number = c; units = u; path = p }
 
--- the last admitted first
+-- by rising number; in the order of admission they are 9, 7, 65535 and 8
 abbrev pub held : List Circuit
-held = circuit 8 10 (3 ∷ []) ∷ circuit 65535 2 (1 ∷ 2 ∷ []) ∷ circuit 7 2 three ∷ circuit 9 6 three ∷ []
+held = circuit 7 2 three ∷ circuit 8 10 (3 ∷ []) ∷ circuit 9 6 three ∷ circuit 65535 2 (1 ∷ 2 ∷ []) ∷ []

@@ -7,24 +7,24 @@ use mathlib.Core.Path.{◌≡◌, refl, sym, ap, ◌∙◌}
 use mathlib.Core.Bool.{true}
 use mathlib.Core.List.{List, []}
 use native.Mathlib.Omega.{arith}
-use borrow.Author.Tests.{le-leb}
-use lib.Dec.{leb}
 use lib.ListN.{length}
 use Rattle.network.specs.Limits.{link_words, path_words, work_words}
 use Rattle.network.specs.declared.Request.{Request}
 use Rattle.area.specs.Refusals.{grants}
 use Rattle.area.specs.Layout.{area_words, table_words}
-use Rattle.area.specs.Station.{Station, station, table_in}
+use Rattle.area.specs.Station.{Station, circuit_of, station, table_in}
+use Rattle.area.specs.Books.{books}
 use Rattle.network.specs.Loops.{every}
 use Rattle.area.specs.Formed.{WellFormed, well_formed, links_fit, hold_times_fit}
 use Rattle.area.specs.Moves.{with_circuit}
 use Rattle.area.specs.Load.{fresh, load_answer, area_loaded}
+use Rattle.area.proofs.Formed.{formed_test}
 use Rattle.area.proofs.LoadCases.{all_pass}
 use Rattle.area.proofs.Loads.{accepted_station, accepted_formed}
 use Rattle.rules.specs.Replies.{PathReply}
 use Rattle.rules.specs.Meaning.{books_in, circuit_for}
 use Rattle.rules.specs.Calls.{quote, admission, booked}
-use Rattle.rules.proofs.Depends.{station_decides, quote_depends, admission_depends}
+use Rattle.rules.proofs.Depends.{quote_depends, admission_depends}
 use Rattle.rules.proofs.Bookings.{admitted_station, admitted_formed}
 use Rattle.cases.specs.declared.Ground.{Ground}
 use Rattle.cases.specs.declared.Ground.TheVariants.{OnA, AfterM8, OnNone, OnB}
@@ -38,23 +38,26 @@ use Rattle.cases.proofs.Rows.{replied_at}
 abbrev pub Like : List ℕ → Ground → Type 0
 Like w k = WellFormed w × (station w ≡ station (area_in k))
 
-area_long : (k : Ground) → leb area_words (length (area_in k)) ≡ true
-unfolding area_in
-area_long OnA = refl
-area_long AfterM8 = refl
-area_long OnNone = refl
-area_long OnB = refl
+area_formed : (k : Ground) → well_formed (area_in k) ≡ true
+unfolding area_in well_formed table_in circuit_of
+area_formed OnA = refl
+area_formed AfterM8 = refl
+area_formed OnNone = refl
+area_formed OnB = refl
 
 module _ (w : List ℕ) (k : Ground) (like : Like w k) where
-  decided : (well_formed w ≡ well_formed (area_in k)) × (books_in w ≡ books_in (area_in k))
-  decided = station_decides w (area_in k) (le-leb area_words (length w) like.0.long ∙ sym (area_long k)) like.1
+  formed_like : well_formed w ≡ well_formed (area_in k)
+  formed_like = formed_test w like.0 ∙ sym (area_formed k)
+
+  books_like : books_in w ≡ books_in (area_in k)
+  books_like = ap books like.1
 
   -- a call on it replies as on that one
   like_quote : (r : Request) → quote w work_words path_words r ≡ quote (area_in k) work_words path_words r
-  like_quote r = quote_depends w (area_in k) work_words path_words r decided.0 decided.1
+  like_quote r = quote_depends w (area_in k) work_words path_words r formed_like books_like
 
   like_admission : (c : ℕ) (r : Request) → admission w work_words path_words c r ≡ admission (area_in k) work_words path_words c r
-  like_admission c r = admission_depends w (area_in k) work_words path_words c r decided.0 decided.1
+  like_admission c r = admission_depends w (area_in k) work_words path_words c r formed_like books_like
 
 -- so what a row asks for is replied as the row's own area would have it
 pub like_replied : (w : List ℕ) (k : Ground) → Like w k → (q : Asked) → replied w q ≡ replied (area_in k) q

@@ -4,4 +4,5 @@ pub mod Numbers
 pub mod Areas
 pub mod FreeLines
 pub mod HoldTimes
+pub mod SteadyList
 pub mod ClassCases

@@ -16,7 +16,7 @@ fn circuit(rt: &impl Print, area: &[u32], at: usize)
     text::put_fields(&mut text, layout::part(area, at, 2));
     answer_lines::put_path(
         &mut text,
-        layout::part(area, at + 3, PATH_WORDS),
+        layout::part(area, at + layout::PATH_START, PATH_WORDS),
         area[at + 2],
     );
     write(rt, b"circuit");

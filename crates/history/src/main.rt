@@ -1,7 +1,7 @@
 // Runs one list of calls twice over document 01's net A, each time on a freshly loaded area: first every call, then the
 // list without its quotes, on an area that held other words before it was loaded. Work memory and path buffer hold other
 // words in the second run, and have the same lengths. By the claim of the crate `ledger` each remaining call is answered
-// as before, and the bookings at the end are the same.
+// as before, and the bookings at the end are the same, in the same words.
 //
 // A line is the call's row, its name, and then problem, delay, cost and links; or 0 and the refusal's number; or
 // released. After the calls come the held circuits as they stand in the area, each with its units and its links, and
@@ -13,7 +13,7 @@
 #![tactic(auto)]
 
 ghost use Rattle.std.specs.Prelude.{◌≡◌, true, false};
-ghost use Rattle.area.specs.Order.{Same};
+ghost use Rattle.area.specs.Station.{held_words};
 ghost use Rattle.area.specs.Refusals.{grants};
 ghost use Rattle.area.specs.Load.{load_answer, area_loaded};
 ghost use Rattle.ledger.specs.History.{answers, area_at_end, bookings};
@@ -67,7 +67,7 @@ fn run(rt: &impl Print, struck: bool, area: &mut [u32; AREA_WORDS]) -> Text
 
 // Both runs, each on an area of its own; answers their texts. By the third demand, whatever the areas held, the second run
 // answers each remaining call as the first did, so its text is the first one's without the lines of the quotes; and both leave
-// the same bookings.
+// the same bookings, in the same words.
 fn both_runs(
     rt: &impl Print,
     first: &mut [u32; AREA_WORDS],
@@ -77,7 +77,8 @@ fn both_runs(
     ensures second { second.new ≡ area_at_end (area_loaded second.old (unheld links_a)) (calls true) }
     ensures text { result.0.items ≡ lines_of (rows_made false) (answers (area_loaded first.old (unheld links_a)) (calls false)) }
     ensures unquoted { result.1.items ≡ unquoted_lines (rows_made false) (answers (area_loaded first.old (unheld links_a)) (calls false)) }
-    ensures same { Same (bookings second.new) (bookings first.new) }
+    ensures same { bookings second.new ≡ bookings first.new }
+    ensures words { held_words second.new ≡ held_words first.new }
 {
     let text = run(rt, false, first);
     write(rt, b"quotes struck\n");

@@ -14,6 +14,7 @@ use Rattle.search.specs.Result.{outcome}
 use Rattle.network.specs.declared.answer.Reduction.TheVariants.{One, Two}
 use Rattle.area.specs.Station.{station, table_in, circuit_of}
 use Rattle.area.specs.Books.{books}
+use Rattle.area.specs.Held.{place_of}
 use Rattle.area.specs.Refusals.{refuses, grants}
 use Rattle.rules.specs.Replies.{granting, releases}
 use Rattle.rules.specs.Requests.{request_fits}
@@ -48,7 +49,7 @@ pub record Admissions : Type 0 where
   pub granted : admission fresh_a 16384 31 7 (asks 4 8 20 8) ≡ granting One 6 15 three
   pub booked_as : booked fresh_a 7 4 (granting One 6 15 three) ≡ held_a
 
--- what the checks of a request and of a circuit number say alone
+-- what the checks of a request and of a circuit number say alone: of a number its place as well
 pub record Checks : Type 0 where
   pub six : request_checked fresh_a 16383 31 m3 ≡ refuses 6
   pub seven : request_checked fresh_a 16384 30 m3 ≡ refuses 7
@@ -56,7 +57,8 @@ pub record Checks : Type 0 where
   pub request : request_checked fresh_a 16384 31 m3 ≡ grants tt
   pub none_eleven : number_checked held_a 0 ≡ refuses 11
   pub held_eleven : number_checked held_a 7 ≡ refuses 11
-  pub number : number_checked held_a 8 ≡ grants tt
+  pub number : number_checked held_a 8 ≡ grants 1
+  pub lower_number : number_checked held_a 2 ≡ grants 0
 
 -- a release of a circuit that is not held, and of one that is: the numbers of the circuits that remain
 pub record Releases : Type 0 where
@@ -89,9 +91,9 @@ admissions =
     }
 
 pub checks : Checks
-unfolding request_fits number_fits books station fresh_a held_a table_in circuit_of
+unfolding request_fits number_fits books station place_of fresh_a held_a table_in circuit_of
 checks =
-    record { six = refl; seven = refl; eight = refl; request = refl; none_eleven = refl; held_eleven = refl; number = refl }
+    record { six = refl; seven = refl; eight = refl; request = refl; none_eleven = refl; held_eleven = refl; number = refl; lower_number = refl }
 
 pub releasing : Releases
 unfolding release cleared held_a two_a table_in circuit_of first

@@ -16,9 +16,9 @@ use Rattle.network.specs.declared.Request.{Request}
 use Rattle.network.specs.declared.Grant.{Grant as Numbers}
 use Rattle.search.specs.Result.{GrantedByOne, GrantedByTwo}
 use Rattle.network.specs.declared.answer.Reduction.TheVariants.{One, Two}
-use Rattle.area.specs.Station.{Circuit}
+use Rattle.area.specs.Station.{Circuit, held_words}
 use Rattle.area.specs.Books.{Books, books, net}
-use Rattle.area.specs.Order.{Same}
+use Rattle.area.specs.Order.{by_number}
 use Rattle.area.specs.Moves.{without}
 use Rattle.area.specs.Refusals.{Rule, FirstApplies, Passes, refuses, grants, IsRefused, IsGranted}
 use Rattle.area.specs.Load.{LoadInput, load_answer, area_loaded}
@@ -219,9 +219,9 @@ module _ (w : List ℕ) (input : LoadInput) (work path work' path' : List ℕ) (
 
     -- after a granted admission and the release, the admitted circuit is held, unless it is the one released, and no other
     pub books_kept : (b : PathGrant) → admitted ≡ grants b
-        → Same (bookings (calls.cleared later d freed)) (without d (record { number = c; units = r'.terms.units; path = b.path } ∷ []))
+        → bookings (calls.cleared later d freed) ≡ by_number (without d (record { number = c; units = r'.terms.units; path = b.path } ∷ []))
     books_kept b e =
-        subst (λ (a : PathReply). Same (bookings (calls.cleared later d freed)) (without d (held a))) e demand.books
+        subst (λ (a : PathReply). bookings (calls.cleared later d freed) ≡ by_number (without d (held a))) e demand.books
       where
         held : PathReply → List Circuit
         held a = (moved (opened input) (admitting (length work') (length path') c r') (told (admitting (length work') (length path') c r') a)).held
@@ -238,15 +238,16 @@ module _ (w : List ℕ) (input : LoadInput) (work path work' path' : List ℕ) (
     admission_enough past k far p path h = demand.enough.1.0 past (k, far, (p, path, h))
 
     -- the quote struck: on any area that Load accepts, the other two calls, lent as many words, answer as they did, and
-    -- leave the same bookings
+    -- leave the same bookings, in the same words of circuits
     pub unquoted : (v : List ℕ) → load_answer v input ≡ grants tt → (lent lent' : List ℕ) → length work' ≡ length lent → length path' ≡ length lent'
         → (answers (area_loaded v input) (admitting lent lent' c r' ∷ releasing d ∷ [])
         ≡ of_request (answer_of admitted) (path_of admitted) ∷ of_release freed ∷ [])
-        × Same (bookings (area_at_end (area_loaded v input) (admitting lent lent' c r' ∷ releasing d ∷ []))) (bookings (calls.cleared later d freed))
+        × (bookings (area_at_end (area_loaded v input) (admitting lent lent' c r' ∷ releasing d ∷ [])) ≡ bookings (calls.cleared later d freed))
+        × (held_words (area_at_end (area_loaded v input) (admitting lent lent' c r' ∷ releasing d ∷ [])) ≡ held_words (calls.cleared later d freed))
     unquoted v accepted lent lent' e f =
         let said = demand.struck v accepted (admitting lent lent' c r' ∷ releasing d ∷ [])
         (strike (keep (ap₂ (λ (a b : ℕ). admitting a b c r') e f) (keep refl end))) in
-        (said.0 ∙ ap rest all_answered, said.1)
+        (said.0 ∙ ap rest all_answered, said.1, said.2)
       where
         -- the answers but the first
         rest : List Given → List Given

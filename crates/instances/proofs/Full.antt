@@ -4,7 +4,7 @@
 -- Assumes nothing.
 use Prim.Native.Nat.{ℕ, zero, suc, ◌+◌, ◌-◌, ◌≤◌, ◌<◌}
 use mathlib.Core.Path.{◌≡◌, refl, sym, ap, ◌∙◌, subst}
-use mathlib.Core.Bool.{true, false, not}
+use mathlib.Core.Bool.{true, false}
 use mathlib.Core.List.{List, [], ◌∷◌}
 use native.Mathlib.Omega.{arith}
 use borrow.Author.Tests.{le-leb, ne_eqb}
@@ -16,7 +16,7 @@ use Rattle.network.specs.Scale.{scaled}
 use Rattle.network.specs.Cut.{noted, follow}
 use Rattle.network.specs.Reduce.{problem_one, problem_two, granted, asking}
 use Rattle.network.specs.declared.Request.{Request}
-use Rattle.network.proofs.Tests.{both}
+use Rattle.network.specs.Ranges.{in_range}
 use Rattle.network.proofs.Ranges.{range_test}
 use Rattle.search.specs.ebf.Table.{cell, cells, filled as filled_cells, initialised, improved, relaxed, offered, column, round, rounds, ebf}
 use Rattle.search.specs.ebf.Trace.{place_back, step_back, traced}
@@ -25,26 +25,29 @@ use Rattle.search.specs.Distance.{spread, layer, distance}
 use Rattle.search.specs.Heuristic.{tried, search}
 use Rattle.search.specs.Result.{Alike, outcome}
 use Rattle.network.specs.declared.answer.Reduction.TheVariants.{One}
+use Rattle.area.specs.Layout.{least_number, most_number}
 use Rattle.area.specs.Station.{Station, table_in, station}
-use Rattle.area.specs.Books.{usage, holds, books, net}
+use Rattle.area.specs.Books.{Books, usage, holds, books, net}
 use Rattle.area.specs.Formed.{WellFormed, well_formed}
+use Rattle.area.specs.Held.{place_of}
 use Rattle.area.specs.Moves.{with_circuit}
 use Rattle.area.proofs.Formed.{formed_test}
 use Rattle.area.proofs.Added.{added_station}
+use Rattle.area.proofs.Order.{books_by_number}
 use Rattle.area.specs.Load.{table_of, load_answer, area_loaded}
 use Rattle.area.proofs.Loads.{accepted_station, accepted_formed}
 use Rattle.area.proofs.ReadCases.{links_few}
 use Rattle.rules.specs.Requests.{request_fits}
 use Rattle.area.specs.Refusals.{refuses, grants}
 use Rattle.rules.specs.Replies.{PathReply, granting, answer_of, path_after, reply_of}
-use Rattle.rules.specs.Calls.{number_fits, request_checked, number_checked, searched, admission, booked}
+use Rattle.rules.specs.Calls.{request_checked, number_checked, searched, admission, booked}
 use Rattle.rules.specs.Meaning.{books_in}
 use Rattle.rules.proofs.Facts.{count_is}
 use Rattle.rules.proofs.Bookings.{admitted_formed}
 use Rattle.rules.proofs.Depends.{choice_depends}
 use Rattle.rules.proofs.CallCases.{request_passes, number_passes, fails_12, number_refused, admission_passed}
 use Rattle.ledger.specs.Entries.{admitting}
-use Rattle.ledger.specs.History.{Lending, Given, of_request, path_given, reply_to, area_after, answers, area_at_end}
+use Rattle.ledger.specs.History.{Lending, Given, of_request, path_given, reply_to, area_after, answers, area_at_end, arranged}
 use Rattle.cases.specs.Document01.{blank}
 use Rattle.instances.specs.Areas.{circuit, two_nodes, circuits_to, filled}
 
@@ -72,12 +75,15 @@ circuits_holds : (k c : ℕ) → k < c → holds (circuits_to k) c ≡ false
 circuits_holds zero c low = refl
 circuits_holds (suc k) c low = rw (ne_eqb c (suc k) λ e. omega (arith, e)) (circuits_holds k c (omega arith))
 
--- ---- what the area holds
+-- ---- what the area holds: by rising number the circuits that a ledger would have newest first
 abbrev holding : ℕ → Station
 holding k = record { table = table_of two_nodes; held = circuits_to k }
 
+same_books : (k : ℕ) → books (arranged (holding k)) ≡ books (holding k)
+same_books k = books_by_number (table_of two_nodes) (circuits_to k)
+
 record Reached (k : ℕ) : Type 0 where
-  is : station (filled k) ≡ holding k
+  is : station (filled k) ≡ arranged (holding k)
   formed : WellFormed (filled k)
 
 pub link_accepted : load_answer blank two_nodes ≡ grants tt
@@ -117,11 +123,9 @@ found k low =
     ap (reply_of (net (books (holding k)) asked))
     (choice_depends (books (holding k)) (books (holding 0)) asked (alike k low) ∙ first_found)
 
--- the circuit after them has a new number
-new : (k : ℕ) → k < 65535 → number_fits (books (holding k)) (suc k) ≡ true
-unfolding number_fits books
-new k low =
-    both _ _ (range_test 1 65535 (suc k) (omega arith) (omega arith)) (ap not (circuits_holds k (suc k) (omega arith)))
+-- the circuit after them has a number in its range
+in_its_range : (k : ℕ) → k < 65535 → in_range least_number most_number (suc k) ≡ true
+in_its_range k low = range_test least_number most_number (suc k) (omega arith) (omega arith)
 
 -- ---- one admission more, whatever work memory and path buffer it is lent
 module _ (work path : ℕ) (memory : 16384 ≤ work) (buffer : 31 ≤ path) (k : ℕ) (here : Reached k) where
@@ -134,19 +138,24 @@ module _ (work path : ℕ) (memory : 16384 ≤ work) (buffer : 31 ≤ path) (k :
       let nodes = ap (λ (s : Station). s.table.nodes) here.is in
       request_passes (filled k) work path asked memory buffer (rw nodes refl)
 
+  books_are : books_in (filled k) ≡ books (holding k)
+  books_are = ap books here.is ∙ same_books k
+
   held : (books_in (filled k)).count ≡ k
   unfolding books
-  held = ap (λ (s : Station). length s.held) here.is ∙ circuits_length k
+  held = ap (λ (o : Books). o.count) books_are ∙ circuits_length k
 
-  fits : k < 65535 → number_fits (books_in (filled k)) (suc k) ≡ true
-  fits low = subst (λ (s : Station). number_fits (books s) (suc k) ≡ true) (sym here.is) (new k low)
+  new : holds (station (filled k)).held (suc k) ≡ false
+  unfolding books
+  new = ap (λ (o : Books). o.holds (suc k)) books_are ∙ circuits_holds k (suc k) (omega arith)
 
   next_granted : k < 64 → admission (filled k) work path (suc k) asked ≡ by_link
   next_granted low =
       let place_left : get_or (filled k) 2 0 < 64 = omega (arith, held, count_is (filled k)) in
-      let number : grants tt ≡ number_checked (filled k) (suc k) = number_passes (filled k) (suc k) (fits (omega arith)) place_left in
-      sym (admission_passed (filled k) work path (suc k) asked formed passed number)
-      ∙ ap (λ (s : Station). searched (books s) asked) here.is
+      let number : grants (place_of (filled k) (suc k)) ≡ number_checked (filled k) (suc k) =
+      number_passes (filled k) (suc k) (in_its_range k (omega arith)) new place_left _ refl in
+      sym (admission_passed (filled k) work path (suc k) asked formed passed _ number)
+      ∙ ap (λ (o : Books). searched o asked) books_are
       ∙ found k (omega arith)
 
   next_reached : k < 64 → Reached (suc k)
@@ -167,7 +176,8 @@ module _ (work path : ℕ) (memory : 16384 ≤ work) (buffer : 31 ≤ path) (k :
   sixty_fifth : k ≡ 64 → admission (filled k) work path (suc k) asked ≡ refuses 12
   sixty_fifth e =
       let full : 64 ≤ get_or (filled k) 2 0 = omega (arith, e, held, count_is (filled k)) in
-      let number : refuses 12 ≡ number_checked (filled k) (suc k) = fails_12 (filled k) (suc k) (fits (omega (arith, e))) full in
+      let number : refuses 12 ≡ number_checked (filled k) (suc k) =
+      fails_12 (filled k) (suc k) (in_its_range k (omega (arith, e))) new full in
       sym (number_refused (filled k) work path (suc k) asked formed passed 12 number)
 
 -- ---- the list of admissions, each lent the same words

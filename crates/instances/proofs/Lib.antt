@@ -9,6 +9,7 @@ pub mod HoldLoads
 pub mod HoldGrants
 pub mod Hops
 pub mod Areas
+pub mod Orders
 pub mod Stations
 pub mod Bookings
 pub mod Premises

@@ -2,12 +2,12 @@
 -- and what is left are any, so a clause that said less would not give it.
 -- Assumes nothing.
 use Prim.Native.Nat.{ℕ, ◌+◌, ◌≤◌, ◌<◌}
-use mathlib.Core.Path.{◌≡◌, refl}
+use mathlib.Core.Path.{◌≡◌}
 use mathlib.Core.Bool.{false, true≢false}
 use mathlib.Core.List.{List, [], ◌∷◌, ◌++◌}
 use native.Mathlib.Omega.{arith}
 use lib.ListN.{length, get_or, drop}
-use Rattle.network.specs.Lists.{memb, Distinct}
+use Rattle.network.specs.Lists.{memb}
 use Rattle.network.specs.Net.{Net}
 use Rattle.network.specs.declared.Request.{Request}
 use Rattle.network.specs.declared.Grant.{Grant as Numbers}
@@ -15,7 +15,7 @@ use Rattle.network.proofs.Tests.{zero_one}
 use Rattle.area.specs.Station.{station}
 use Rattle.area.specs.Books.{holds, books}
 use Rattle.area.specs.Formed.{WellFormed}
-use Rattle.area.specs.Order.{Same}
+use Rattle.area.specs.Order.{Rising, placed}
 use Rattle.area.specs.Moves.{without, Untouched}
 use Rattle.area.specs.Held.{ListsHeld}
 use Rattle.area.specs.Refusals.{Rule, ◌when◌, FirstApplies, Passes, Reply, refuses, grants, Answered}
@@ -23,7 +23,7 @@ use Rattle.area.specs.Reads.{count_of, buffer_after, list_rules, ListMeans}
 use Rattle.rules.specs.Replies.{PathGrant, PathReply, answer_of, path_after}
 use Rattle.rules.specs.Allowed.{Grant, search_rules, number_rules}
 use Rattle.rules.specs.Meaning.{books_in, quote_rules, net_for, Quoted, Admitted, AreaBooked, QuoteMeans, AdmissionMeans, ReleaseMeans}
-use Rattle.instances.proofs.Areas.{seven}
+use Rattle.instances.proofs.Areas.{seven, eight}
 
 -- what a caller knows of a granted path: no rule applied, it is a best one of its problem, the numbers are its own, and it
 -- stands in the first words of the path buffer, where the others keep theirs
@@ -74,10 +74,11 @@ module _ (w : List ℕ) (work : ℕ) (l : List ℕ) (c : ℕ) (r : Request) (l' 
       go (refuses j) allowed e path area = let same : j ≡ k = cc in (rw (← same) allowed, path, area)
       go (grants b) allowed e path area = absurd (zero_one cc)
 
-  -- granted: a path as for a quote, and the circuit is held besides, in an area that is well formed and otherwise untouched
+  -- granted: a path as for a quote, and the circuit is held besides, at its place, in an area that is well formed and otherwise
+  -- untouched
   abbrev CircuitHeld : PathGrant → Type 0
   CircuitHeld b =
-      Same (station w').held (record { number = c; units = r.terms.units; path = b.path } ∷ (station w).held) × WellFormed w' × Untouched w w'
+      ((station w').held ≡ placed (record { number = c; units = r.terms.units; path = b.path }) (station w).held) × WellFormed w' × Untouched w w'
 
   pub admission_granted : (g : Numbers) → AdmissionMeans w work l c r (grants g) l' w'
       → (b : PathGrant) × PathGiven admission_rules (net_for w r) r g l l' b
@@ -102,7 +103,7 @@ module _ (w : List ℕ) (c : ℕ) (w' : List ℕ) where
 
   -- granted: the others are held, in an area that is well formed and otherwise untouched
   abbrev OthersHeld : Type 0
-  OthersHeld = Same (station w').held (without c (station w).held) × WellFormed w' × Untouched w w'
+  OthersHeld = ((station w').held ≡ without c (station w).held) × WellFormed w' × Untouched w w'
 
   pub release_granted : ReleaseMeans w c (grants tt) w' → Passes releasing_rules × OthersHeld
   unfolding books
@@ -123,14 +124,14 @@ module _ (w l l' : List ℕ) where
       go (refuses j) allowed e buffer = let same : j ≡ k = cc in (rw (← same) allowed, buffer)
       go (grants ns) allowed e buffer = absurd (zero_one cc)
 
-  -- granted: h numbers are written, those of the held circuits and no other, each once; the words past them keep theirs
+  -- granted: h numbers are written, those of the held circuits and no other, rising; the words past them keep theirs
   abbrev Written : ℕ → List ℕ → Type 0
   Written h ns =
       (h ≡ length ns)
       × (l' ≡ ns ++ drop (length ns) l)
       × (length ns ≡ length (station w).held)
       × ((c : ℕ) → memb c ns ≡ holds (station w).held c)
-      × Distinct ns
+      × Rising ns
 
   pub list_granted : (h : ℕ) → ListMeans w l (grants h) l' → Passes listing_rules × ((ns : List ℕ) × Written h ns)
   list_granted h m = go m.reply m.allowed m.answer m.buffer
@@ -138,17 +139,21 @@ module _ (w l l' : List ℕ) where
       go : (a : Reply (List ℕ)) → Allowed a → grants h ≡ count_of a → l' ≡ buffer_after a l → Passes listing_rules × ((ns : List ℕ) × Written h ns)
       go (refuses j) allowed e buffer = absurd (zero_one cc)
       go (grants ns) allowed e buffer =
-          (allowed.0, (ns, (cc, buffer, allowed.1.count, allowed.1.held, allowed.1.once)))
+          (allowed.0, (ns, (cc, buffer, allowed.1.count, allowed.1.held, allowed.1.rising)))
 
--- each part of a right listing can fail alone: one number fewer than circuits, a number that is not held, one twice
+-- each part of a right listing can fail alone: one number fewer than circuits, a number that is not held, a falling
+-- pair, a number twice
 pub count_fails : ListsHeld (seven ∷ seven ∷ []) (7 ∷ []) → ⊥
 count_fails h = omega (arith, h.count)
 
 pub held_fails : ListsHeld (seven ∷ []) (8 ∷ []) → ⊥
 held_fails h = true≢false (h.held 8)
 
+pub rising_fails : ListsHeld (eight ∷ seven ∷ []) (8 ∷ 7 ∷ []) → ⊥
+rising_fails h = omega (arith, h.rising.0.0)
+
 pub once_fails : ListsHeld (seven ∷ seven ∷ []) (7 ∷ 7 ∷ []) → ⊥
-once_fails h = h.once.0.0 refl
+once_fails h = omega (arith, h.rising.0.0)
 
 -- ---- what is untouched, at the ends of its ranges: n, m, words 3 and 1,282, and word 3,459, the first past 3,458
 module _ (w w' : List ℕ) (h : Untouched w w') where

@@ -7,23 +7,28 @@ use mathlib.Core.List.{[], ◌∷◌}
 use native.Mathlib.Omega.{arith}
 use lib.ListN.{replicate, get_or, length-replicate, get_or-eq_default}
 use Rattle.network.specs.Reduce.{asking}
-use Rattle.area.specs.Station.{circuits, table_in, circuit_of}
-use Rattle.area.specs.Formed.{held_fit, place_fits}
+use Rattle.area.specs.Station.{table_in, circuit_of}
+use Rattle.area.specs.Formed.{words_fit, place_fits, places_fit}
 use Rattle.area.specs.FreeIn.{free_in}
 use Rattle.rules.specs.Requests.{request_fits}
 use Rattle.rules.specs.SearchableArea.{SearchableArea}
 use Rattle.cases.specs.Document01.{links_a, m3}
-use Rattle.instances.specs.Areas.{fresh_a, held_a}
+use Rattle.instances.specs.Areas.{fresh_a, held_a, two_a, before_a}
 use Rattle.instances.specs.Calls.{work, path}
 
 -- ---- circuits that fit: the first of net A with circuit 7, and not a second
-pub held : (held_fit 4 links_a (circuits held_a 1) ≡ true) × (held_fit 4 links_a (circuits held_a 2) ≡ false)
-unfolding held_fit held_a circuit_of
+pub held : (places_fit 4 links_a held_a 1 ≡ true) × (places_fit 4 links_a held_a 2 ≡ false)
+unfolding places_fit held_a circuit_of
 held = (refl, refl)
 
 pub places : (place_fits 4 links_a held_a 0 ≡ true) × (place_fits 4 links_a held_a 1 ≡ false)
 unfolding place_fits held_a circuit_of
 places = (refl, refl)
+
+-- the second circuit's words fit behind a lower number, and not behind a higher one
+pub behind : (words_fit (two_a 8 10) 1 ≡ true) × (words_fit (before_a 8 10) 1 ≡ false)
+unfolding words_fit two_a before_a circuit_of
+behind = (refl, refl)
 
 -- ---- each link's free units, and not none at all
 -- none past the table's end

@@ -6,17 +6,15 @@ use mathlib.Core.Path.{◌≡◌, ◌∙◌, ap, refl, sym, subst}
 use mathlib.Core.List.{List, [], ◌∷◌, ◌++◌, map}
 use mathlib.Core.Logic.{inl, inr}
 use native.Mathlib.Omega.{arith}
-use lib.ListN.{replicate, get_or}
+use lib.ListN.{length, replicate, get_or}
 use Rattle.std.specs.Prelude.{Ok, Err}
 use Rattle.network.specs.declared.answer.NoRoute.TheVariants as route
 use Rattle.network.specs.declared.answer.Reduction.TheVariants.{One}
-use Rattle.area.specs.Station.{station, table_in, circuit_of}
-use Rattle.area.specs.Order.{alike}
+use Rattle.area.specs.Station.{Circuit, station, table_in, circuit_of}
 use Rattle.area.specs.Refusals.{Rule, ◌when◌, FirstApplies, Passes, number, numbered, refusal_of, refuses, grants, Answered}
 use Rattle.area.specs.declared.refusal.Refusal.{Refusal}
 use Rattle.area.specs.declared.refusal.Refusal.TheVariants as why
 use Rattle.area.specs.Reads.{list_answer, listed, ListMeans}
-use Rattle.area.proofs.Order.{count_same}
 use Rattle.area.proofs.Refusals.{one_first, none_first}
 use Rattle.area.proofs.ReadCases.{listed_as}
 use Rattle.rules.specs.Replies.{answer_of, path_after, granting}
@@ -134,11 +132,11 @@ m3_not_refused k l' h =
 -- ---- an area that is rebooked: net A with circuit 7, and not with circuit 8 as well
 pub rebooked : Rebooked fresh_a held_a (seven ∷ [])
 unfolding held_a fresh_a station table_in circuit_of
-rebooked = record { holds = alike; formed = held_formed; untouched = added_leaves }
+rebooked = record { holds = refl; formed = held_formed; untouched = added_leaves }
 
 pub not_rebooked : Rebooked fresh_a held_a (seven ∷ eight ∷ []) → ⊥
 unfolding held_a fresh_a station table_in circuit_of
-not_rebooked h = omega (arith, count_same h.holds)
+not_rebooked h = omega (arith, ap (λ (l : List Circuit). length l) h.holds)
 
 -- ---- a listing of circuits 7 and 8: two numbers, and not one
 pub two_listed : ListMeans (two_a 8 10) (1 ∷ 1 ∷ 1 ∷ []) (grants 2) (7 ∷ 8 ∷ 1 ∷ [])

@@ -8,7 +8,7 @@ use Rattle.area.specs.Station.{table_in, circuit_of}
 use Rattle.area.specs.Load.{input_of, load_answer, area_loaded}
 use Rattle.area.specs.Reads.{list_answer, listed, free_answer}
 use Rattle.cases.specs.Document01.{blank, links_a, four_nodes, unheld}
-use Rattle.instances.specs.Areas.{held_a, two_a}
+use Rattle.instances.specs.Areas.{held_a, two_a, before_a}
 
 -- an area that is a word too short, one node and 33, words that are no whole link and words of 257 links, a link to a
 -- node that is not there, a hold time too few, one too many and one out of range. Where hold times are refused and so is
@@ -30,12 +30,15 @@ pub record Loads : Type 0 where
   pub unchanged : area_loaded blank (input_of 3 links_a (replicate 3 0)) ≡ blank
   pub hold_unchanged : area_loaded blank (four_nodes links_a (replicate 3 0)) ≡ blank
 
--- an area that is not well formed, a buffer that is too short; the numbers of two circuits, and a word that is kept
+-- an area that is not well formed, a buffer that is too short; the numbers of two circuits, and a word that is kept; circuits
+-- in another order, and a lower number admitted last
 pub record Listings : Type 0 where
   pub five : list_answer (two_a 7 10) 64 ≡ refuses 5
   pub fourteen : list_answer (two_a 8 10) 1 ≡ refuses 14
   pub listed_two : list_answer (two_a 8 10) 2 ≡ grants 2
   pub written : listed (two_a 8 10) (1 ∷ 1 ∷ 1 ∷ []) ≡ 7 ∷ 8 ∷ 1 ∷ []
+  pub turned_five : list_answer (before_a 8 10) 64 ≡ refuses 5
+  pub lower_first : listed (before_a 2 10) (1 ∷ 1 ∷ 1 ∷ []) ≡ 2 ∷ 7 ∷ 1 ∷ []
 
 -- an area that is not well formed, a link that is not there; link 2 has what circuit 7 leaves, and link 3 has all
 pub record FreeUnits : Type 0 where
@@ -66,8 +69,8 @@ loads =
     }
 
 pub listings : Listings
-unfolding list_answer listed two_a table_in circuit_of
-listings = record { five = refl; fourteen = refl; listed_two = refl; written = refl }
+unfolding list_answer listed two_a before_a table_in circuit_of
+listings = record { five = refl; fourteen = refl; listed_two = refl; written = refl; turned_five = refl; lower_first = refl }
 
 pub free_units : FreeUnits
 unfolding free_answer held_a two_a table_in circuit_of

@@ -1,5 +1,5 @@
 -- A list of calls on net A in which every refusal but 12 occurs that a list from a loaded area can meet, with grants of
--- both problems and a release; the answers; and the list with its quotes struck.
+-- both problems and a release; the answers; and the list with its quotes struck. And a list of two admissions.
 -- Assumes nothing.
 use Rattle.std.specs.Prelude.{ℕ, List, [], ◌∷◌, replicate}
 use Rattle.network.specs.declared.Request.{Request}
@@ -62,6 +62,10 @@ expected =
     ∷ by_three One
     ∷ []
 
--- the calls that remain, lent other words
+-- two admissions by rising number, so that a ledger has them the other way round
+abbrev pub in_turn : List Lending
+in_turn = admits 0 2 m4 ∷ admits 0 7 (asks 4 8 20 8) ∷ []
+
+-- of the first list the calls that remain, lent other words
 abbrev pub unquoted : List Lending
 unquoted = admits 1 7 (asks 4 8 20 8) ∷ admits 1 7 m3 ∷ admits 1 8 m4 ∷ releasing 9 ∷ releasing 7 ∷ []

@@ -3,16 +3,16 @@
 -- each call. specs/Demand.antt says what is claimed.
 -- Assumes nothing.
 use Prim.Native.Nat.{ℕ}
-use mathlib.Core.Path.{◌≡◌}
+use mathlib.Core.Path.{◌≡◌, sym, ap, ◌∙◌}
 use mathlib.Core.List.{List, ◌++◌}
 use mathlib.Core.Logic.{◌↔◌}
 use Rattle.network.specs.declared.Request.{Request}
-use Rattle.area.specs.Station.{station}
+use Rattle.area.specs.Station.{Station, held_words}
 use Rattle.area.specs.Books.{Books, path_delay}
 use Rattle.area.specs.Formed.{WellFormed}
-use Rattle.area.specs.Order.{Agrees}
 use Rattle.area.specs.Refusals.{Passes, IsRefused}
-use Rattle.area.proofs.Order.{agrees_eq, agrees_next, agrees_sym}
+use Rattle.area.proofs.Order.{equal_same}
+use Rattle.area.proofs.SameWords.{same_words}
 use Rattle.area.specs.Refusals.{grants}
 use Rattle.area.specs.Load.{LoadInput, load_answer, area_loaded}
 use Rattle.area.proofs.Loads.{accepted_station, accepted_formed}
@@ -22,24 +22,24 @@ use Rattle.rules.specs.Allowed.{number_rules, search_rules}
 use Rattle.rules.specs.Meaning.{books_in, net_for}
 use Rattle.rules.proofs.Meaning.{quote_means, admission_means}
 use Rattle.ledger.specs.Entries.{Call, ReplyTo, opened, checks}
-use Rattle.ledger.specs.History.{Lending, history}
+use Rattle.ledger.specs.History.{Lending, history, bookings}
 use Rattle.ledger.specs.Sentences.{AtRequest, OfRequest, Feasible, ZeroBound}
 use Rattle.ledger.specs.Demand.{FirstDemand, PathsGranted, Throughout, SecondDemand, ThirdDemand}
 use Rattle.ledger.proofs.Decisions.{every_call_decided}
 use Rattle.ledger.proofs.Steps.{Says}
 use Rattle.ledger.proofs.Given.{answers_given}
 use Rattle.ledger.proofs.Places.{refused_as, not_five, answered, exactly_refused, enough_granted, zero_refused, delay_granted, paths_granted, paths_past_five}
-use Rattle.ledger.proofs.Histories.{followed, ends_agree, at_every, Agreeing, struck_answers, struck_ends}
+use Rattle.ledger.proofs.Histories.{Follows, followed, ends_follow, at_every, Alike, struck_answers, struck_ends}
 
 -- ---- the first demand
 pub first_demand : FirstDemand
 first_demand = every_call_decided
 
 module _ (input : LoadInput) where
-  -- ---- an accepted load: the ledger opens in agreement with the area, so any two such areas agree
+  -- ---- an accepted load: the area holds nothing and the ledger opens with no entry, so any two such areas are alike
   module _ (w : List ℕ) (accepted : load_answer w input ≡ grants tt) where
-    opens : Agrees (station (area_loaded w input)) (opened input)
-    opens = agrees_eq (accepted_station w input accepted)
+    opens : Follows (area_loaded w input) (opened input)
+    opens = accepted_station w input accepted
 
     formed : WellFormed (area_loaded w input)
     formed = accepted_formed w input accepted
@@ -53,13 +53,19 @@ module _ (input : LoadInput) where
         → Throughout w input cs P
     throughout P one cs = at_every P one (opened input) (history (area_loaded w input) cs) (said cs)
 
-  agreeing : (w v : List ℕ) → load_answer w input ≡ grants tt → load_answer v input ≡ grants tt → Agreeing (area_loaded w input) (area_loaded v input)
-  agreeing w v accepted accepted' =
+  loads_alike : (w v : List ℕ) → load_answer w input ≡ grants tt → load_answer v input ≡ grants tt → Alike (area_loaded w input) (area_loaded v input)
+  loads_alike w v accepted accepted' =
       record {
         first = formed w accepted;
         second = formed v accepted';
-        agrees = agrees_next (opens w accepted) (agrees_sym (opens v accepted'));
+        same = opens w accepted ∙ sym (opens v accepted');
       }
+
+  -- areas that are alike have the same circuits in the same words
+  pub alike_words : (w v : List ℕ) → Alike w v → (bookings v ≡ bookings w) × (held_words v ≡ held_words w)
+  alike_words w v t =
+      let held = ap (λ (s : Station). s.held) (sym t.same) in
+      (held, same_words v w t.second t.first (equal_same held))
 
   -- ---- the third demand, and the second at every place of a list
   module _ (w : List ℕ) (accepted : load_answer w input ≡ grants tt) (cs : List Lending) where
@@ -71,12 +77,15 @@ module _ (input : LoadInput) where
           exactly = throughout w accepted _ exactly_refused cs;
           granted = throughout w accepted _ answered cs;
           answered = answers_given (area_loaded w input) cs;
-          books = (ends_agree (area_loaded w input) (opened input) (formed w accepted) (opens w accepted) cs).held;
+          books = ap (λ (s : Station). s.held) (ends_follow (area_loaded w input) (opened input) (formed w accepted) (opens w accepted) cs);
           enough = throughout w accepted _ enough_granted cs;
-          struck = λ v accepted' ds s. (
-            struck_answers (area_loaded w input) (area_loaded v input) (agreeing w v accepted accepted') s,
-            (struck_ends (area_loaded w input) (area_loaded v input) (agreeing w v accepted accepted') s).held,
-          );
+          struck = λ v accepted' ds s.
+              let both = loads_alike w v accepted accepted' in
+              let ends = struck_ends (area_loaded w input) (area_loaded v input) both s in (
+                struck_answers (area_loaded w input) (area_loaded v input) both s,
+                (alike_words _ _ ends).0,
+                (alike_words _ _ ends).1,
+              );
         }
 
     -- beside it: with a bound of 0 the heuristic is exact. Past its checks a request is refused exactly when no usable path

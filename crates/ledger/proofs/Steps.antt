@@ -5,16 +5,15 @@ use Prim.Native.Nat.{ℕ}
 use mathlib.Core.Path.{◌≡◌, refl, sym, ap, ◌∙◌}
 use mathlib.Core.List.{List, [], ◌∷◌}
 use mathlib.Core.Logic.{inl, inr}
+use mathlib.Core.Option.{Option, none, some}
 use lib.ListN.{length}
 use Rattle.network.specs.declared.Request.{Request}
-use Rattle.area.specs.Station.{station}
+use Rattle.area.specs.Station.{Station, station}
 use Rattle.area.specs.Books.{Books, books}
 use Rattle.area.specs.Formed.{WellFormed, well_formed}
-use Rattle.area.specs.Moves.{without_number}
-use Rattle.area.specs.Order.{Agrees}
+use Rattle.area.specs.Moves.{with_circuit, without_number}
 use Rattle.area.proofs.Formed.{formed_test}
 use Rattle.area.proofs.Keeps.{unheld_stays}
-use Rattle.area.proofs.Order.{agrees_refl, agrees_eq, books_agree}
 use Rattle.area.specs.Refusals.{◌when◌, refuses, grants, Answered}
 use Rattle.area.proofs.Refusals.{past}
 use Rattle.rules.specs.Replies.{PathReply, ReleaseReply}
@@ -23,12 +22,19 @@ use Rattle.rules.specs.Meaning.{books_in}
 use Rattle.rules.proofs.Meaning.{quote_means, admission_means, release_means}
 use Rattle.rules.proofs.Bookings.{admitted_station, admitted_formed, released_station, released_formed}
 use Rattle.rules.proofs.Depends.{quote_depends, admission_depends, release_depends}
-use Rattle.ledger.specs.Entries.{Call, quoting, admitting, releasing, ReplyTo, told, rules, Grants, moved}
-use Rattle.ledger.specs.History.{Lending, measured, reply_to, area_after, Event, event, after}
+use Rattle.ledger.specs.Entries.{Call, quoting, admitting, releasing, ReplyTo, told, entry, rules, Grants}
+use Rattle.ledger.specs.History.{Lending, measured, reply_to, area_after, Event, event}
 
 -- a reply is what the ledger says of a call: refused by the first rule that applies, else as it grants
 abbrev pub Says : Books → (q : Call ℕ) → ReplyTo q → Type 0
 Says o q a = Answered (Grants o q) (rules o q) a
+
+-- how the circuits of a station move: as the ledger's entries do, but that a circuit stands at its place
+abbrev pub station_moved : Station → Call ℕ → Option (List ℕ) → Station
+station_moved s (quoting work path r) granted = s
+station_moved s (admitting work path c r) none = s
+station_moved s (admitting work path c r) (some p) = with_circuit s (entry c r p)
+station_moved s (releasing c) granted = without_number s c
 
 module _ (w : List ℕ) (formed : WellFormed w) where
   -- 5 is not given
@@ -46,20 +52,20 @@ module _ (w : List ℕ) (formed : WellFormed w) where
 
   -- the circuits after an admission, by its reply
   admits : (work path c : ℕ) (r : Request) (a : PathReply) → admission w work path c r ≡ a
-      → Agrees (station (booked w c r.terms.units a)) (moved (station w) (admitting work path c r) (told (admitting work path c r) a))
+      → station (booked w c r.terms.units a) ≡ station_moved (station w) (admitting work path c r) (told (admitting work path c r) a)
   unfolding booked
-  admits work path c r (refuses k) e = agrees_refl (station w)
-  admits work path c r (grants g) e = agrees_eq (admitted_station w work path c r g e)
+  admits work path c r (refuses k) e = refl
+  admits work path c r (grants g) e = admitted_station w work path c r g e
 
   -- the circuits after a release, by its reply
-  frees : (c : ℕ) (a : ReleaseReply) → release w c ≡ a → Says (books_in w) (releasing c) a → Agrees (station (cleared w c a)) (without_number (station w) c)
+  frees : (c : ℕ) (a : ReleaseReply) → release w c ≡ a → Says (books_in w) (releasing c) a → station (cleared w c a) ≡ without_number (station w) c
   unfolding cleared books
-  frees c (refuses k) e (inl (lacks, _)) = agrees_eq (sym (unheld_stays (station w) c lacks))
+  frees c (refuses k) e (inl (lacks, _)) = sym (unheld_stays (station w) c lacks)
   frees c (refuses k) e (inr (_, h)) = absurd h
-  frees c (grants _) e h = agrees_eq (released_station w c e)
+  frees c (grants _) e h = released_station w c e
 
-  pub moves : (c : Lending) → Agrees (station (area_after w c)) (after (station w) (event w c))
-  moves (quoting work path r) = agrees_refl (station w)
+  pub moves : (c : Lending) → station (area_after w c) ≡ station_moved (station w) (measured c) (told (measured c) (reply_to w c))
+  moves (quoting work path r) = refl
   moves (admitting work path c r) = admits (length work) (length path) c r (admission w (length work) (length path) c r) refl
   moves (releasing c) = frees c (release w c) refl (says (releasing c))
 
@@ -89,11 +95,11 @@ reply_depends w w' (admitting work path c r) formed same = admission_depends w w
 reply_depends w w' (releasing c) formed same = release_depends w w' c formed same
 
 -- two well-formed areas with the same circuits answer calls with the same numbers and lengths alike
-pub events_alike : (w w' : List ℕ) → WellFormed w → WellFormed w' → Agrees (station w) (station w') → (c d : Lending) → measured c ≡ measured d
+pub events_alike : (w w' : List ℕ) → WellFormed w → WellFormed w' → station w ≡ station w' → (c d : Lending) → measured c ≡ measured d
     → event w c ≡ event w' d
-events_alike w w' formed formed' agrees c d same =
+events_alike w w' formed formed' stations c d same =
     event_measured w c
     ∙ ap (event_by w) same
     ∙ ap (λ (a : ReplyTo (measured d)). record { call = measured d; reply = a })
-    (reply_depends w w' (measured d) (formed_test w formed ∙ sym (formed_test w' formed')) (books_agree agrees))
+    (reply_depends w w' (measured d) (formed_test w formed ∙ sym (formed_test w' formed')) (ap books stations))
     ∙ sym (event_measured w' d)

@@ -9,7 +9,8 @@ use Rattle.network.specs.declared.Request.{Request}
 use Rattle.network.specs.declared.answer.Reduction.TheVariants.{One, Two}
 use Rattle.search.specs.Result.{GrantedByOne, GrantedByTwo}
 use Rattle.area.specs.Books.{Books}
-use Rattle.area.specs.Order.{Same}
+use Rattle.area.specs.Station.{held_words}
+use Rattle.area.specs.Order.{by_number}
 use Rattle.area.specs.Refusals.{Passes, Reply, refuses, grants, IsRefused, IsGranted}
 use Rattle.area.specs.Load.{LoadInput, load_answer, area_loaded}
 use Rattle.area.specs.Reads.{list_answer, listed, free_answer}
@@ -101,12 +102,15 @@ module _ (w : List ℕ) (input : LoadInput) (cs : List Lending) where
     pub granted : Throughout (λ o q a. (b : Granting q) → a ≡ grants b → Grants o q b)
     -- what each call answers is what its reply says: the numbers, with the path's delay, cost and l, and the path's words
     pub answered : answers start cs ≡ map (λ (e : Event). given_by e.call e.reply) (history start cs)
-    -- "and book as the ledger says": after the list, and so after every call, the bookings are exactly the entries
-    pub books : Same (bookings (area_at_end start cs)) (at_end (opened input) (history start cs)).held
+    -- "and book as the ledger says": after the list, and so after every call, the bookings are exactly the entries, by rising
+    -- number
+    pub books : bookings (area_at_end start cs) ≡ by_number (at_end (opened input) (history start cs)).held
     -- "overqualified paths are always enough"
     pub enough : Throughout (λ o q a. Passes (checks o q) → OfRequest (λ g r b. Overqualifies g r → IsGranted b) o q a)
     -- "striking quotes changes no other answer nor the final bookings", from any area v loaded with the same numbers and
-    -- whatever words the calls are lent
+    -- whatever words the calls are lent; the bookings stand in the same words
     pub struck : (v : List ℕ) → load_answer v input ≡ grants tt → (ds : List Lending) (s : Struck cs ds)
-        → (answers (area_loaded v input) ds ≡ remaining s (answers start cs))
-        × Same (bookings (area_at_end (area_loaded v input) ds)) (bookings (area_at_end start cs))
+        → let last = area_at_end start cs in
+        let left = area_at_end (area_loaded v input) ds in
+        (answers (area_loaded v input) ds ≡ remaining s (answers start cs)) × (bookings left ≡ bookings last)
+        × (held_words left ≡ held_words last)

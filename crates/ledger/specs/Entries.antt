@@ -2,13 +2,13 @@
 -- It is fed the numbers that were loaded, the calls' numbers, the lengths of work memory and path buffer and, of the
 -- answers, only the paths of granted admissions.
 -- Assumes nothing.
-use Rattle.std.specs.Prelude.{ℕ, List, [], ◌++◌}
+use Rattle.std.specs.Prelude.{ℕ, List, [], ◌∷◌, ◌++◌}
 use Rattle.std.proofs.Math.Option.{Option, none, some}
 use Rattle.network.specs.Net.{Net}
 use Rattle.network.specs.declared.Request.{Request}
 use Rattle.area.specs.Station.{Circuit, Station}
 use Rattle.area.specs.Books.{Books, net}
-use Rattle.area.specs.Moves.{with_circuit, without_number}
+use Rattle.area.specs.Moves.{without_number}
 use Rattle.area.specs.Load.{LoadInput, table_of}
 use Rattle.area.specs.Refusals.{Rule, FirstApplies, Reply, refuses, grants}
 use Rattle.rules.specs.Replies.{PathGrant}
@@ -88,10 +88,14 @@ Grants o (releasing c) g = Unit {0}
 abbrev pub entry : ℕ → Request → List ℕ → Circuit
 entry c r p = record { number = c; units = r.terms.units; path = p }
 
+-- the entries stand in the order of admission, the newest first
+abbrev pub with_entry : Ledger → Circuit → Ledger
+with_entry l e = record { table = l.table; held = e ∷ l.held }
+
 -- A quote and a refused call leave the ledger alone. A granted admission adds its number, its units and the path. A
 -- release removes the entry with its number; where none has it, the release is refused and nothing is removed.
 abbrev pub moved : Ledger → Call ℕ → Option (List ℕ) → Ledger
 moved l (quoting work path r) granted = l
 moved l (admitting work path c r) none = l
-moved l (admitting work path c r) (some p) = with_circuit l (entry c r p)
+moved l (admitting work path c r) (some p) = with_entry l (entry c r p)
 moved l (releasing c) granted = without_number l c

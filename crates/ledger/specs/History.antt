@@ -3,7 +3,8 @@
 -- Assumes nothing.
 use Rattle.std.specs.Prelude.{ℕ, ◌≡◌, List, [], ◌∷◌, length, take}
 use Rattle.network.specs.declared.Request.{Request}
-use Rattle.area.specs.Station.{Circuit, station}
+use Rattle.area.specs.Station.{Circuit, Station, station}
+use Rattle.area.specs.Order.{by_number}
 use Rattle.network.specs.declared.Grant.{Grant as Numbers}
 use Rattle.area.specs.Refusals.{Reply, refuses, grants}
 use Rattle.rules.specs.Replies.{PathReply, answer_of, path_of, path_after, ReleaseReply}
@@ -95,9 +96,13 @@ abbrev pub area_at_end : List ℕ → List Lending → List ℕ
 area_at_end w [] = w
 area_at_end w (c ∷ cs) = area_at_end (area_after w c) cs
 
--- document 01's bookings: the held circuits of an area, each with its units and path
+-- document 01's bookings: the held circuits of an area, each with its units and path. Req 04 has them in one order
 abbrev pub bookings : List ℕ → List Circuit
 bookings w = (station w).held
+
+-- a ledger as an area has it: its entries stand in the order of admission, and the circuits by rising number
+abbrev pub arranged : Ledger → Station
+arranged l = record { table = l.table; held = by_number l.held }
 
 -- the ledger after a call and its reply, and after a list of them
 abbrev pub after : Ledger → Event → Ledger

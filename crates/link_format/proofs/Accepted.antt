@@ -8,7 +8,7 @@ use borrow.Author.Tests.{le-leb, leb-true, eqb-true}
 use lib.Dec.{leb}
 use lib.ListN.{length, drop}
 use Rattle.network.specs.Limits.{link_words, most_links}
-use Rattle.network.proofs.Stored.{from_length}
+use Rattle.network.proofs.Listed.{from_length}
 use Rattle.network.proofs.Tests.{fst_of, snd_of, zero_one}
 use Rattle.area.specs.Refusals.{Reply, refuses, grants}
 use Rattle.area.specs.Checks.{first_failing}

@@ -12,4 +12,5 @@ pub mod Few
 pub mod Short
 pub mod Cut
 pub mod Bounds
+pub mod Listed
 pub mod Stored

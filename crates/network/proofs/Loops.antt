@@ -157,3 +157,9 @@ module _ (f : ℕ → Bool) where
   unfolding every
   every_all zero all = refl
   every_all (suc n) all = rw (every_all n (λ i low. all i (omega arith)), all n (omega arith)) refl
+
+-- tests that agree below n pass at all of these numbers alike
+pub every_alike : (f h : ℕ → Bool) (n : ℕ) → ((i : ℕ) → i < n → f i ≡ h i) → every f n ≡ every h n
+unfolding every
+every_alike f h zero same = refl
+every_alike f h (suc n) same = rw (every_alike f h n (λ i low. same i (omega arith)), same n (omega arith))

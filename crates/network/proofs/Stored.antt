@@ -1,7 +1,7 @@
 -- Loops that store a list: what the loop has yet to store, stored from here, comes to the same. The list is given, or it
 -- is what a function gives for the numbers from 0 on.
 -- Assumes nothing.
-use mathlib.Core.Path.{◌≡◌, refl, ap, ◌∙◌}
+use mathlib.Core.Path.{◌≡◌, ◌∙◌}
 use mathlib.Core.List.{List, ◌++◌}
 use Prim.Native.Nat.{ℕ, zero, suc, ◌+◌, ◌-◌, ◌≤◌, ◌<◌}
 use native.Mathlib.Nat.{add-zero, zero-add, sub-zero}
@@ -10,6 +10,7 @@ use native.Mathlib.Omega.{arith}
 use lib.ListN.{length, get_or, set, drop, drop_of_length-le}
 use lib.Seq.{sets, drop-cons, sets-eq}
 use Rattle.network.specs.Lists.{from}
+use Rattle.network.proofs.Listed.{from_length}
 
 -- ---- a list that is given, from a place on
 -- before the first turn all is left to store
@@ -28,10 +29,6 @@ pub put_end : (w words : List ℕ) (at i : ℕ) → length words ≤ i → w ≡
 put_end w words at i h = rw (drop_of_length-le words {i = i} h)
 
 -- ---- what a function gives, from the first place on
-pub from_length : (f : ℕ → ℕ) (i n : ℕ) → length (from f i n) ≡ n
-from_length f i zero = refl
-from_length f i (suc n) = ap suc (from_length f (suc i) n)
-
 -- before the first turn all is left to store
 pub from_none : (f : ℕ → ℕ) (t : List ℕ) (n : ℕ) → sets t 0 (from f 0 (n - 0)) ≡ sets t 0 (from f 0 n)
 from_none f t n = rw sub-zero

@@ -1,6 +1,6 @@
 -- Small functions on lists that the other files and rooms share.
 -- Assumes nothing.
-use Rattle.std.specs.Prelude.{ℕ, zero, suc, ◌≡◌, Bool, true, false, not, ◌&&◌, ◌||◌, List, [], ◌∷◌, eqb}
+use Rattle.std.specs.Prelude.{ℕ, zero, suc, ◌≡◌, Bool, true, false, not, ◌&&◌, ◌||◌, List, [], ◌∷◌, ◌++◌, eqb}
 
 -- the statement holds of every element
 abbrev pub All {ℓ κ} : {A : Type ℓ} → (A → Type κ) → List A → Type κ
@@ -22,6 +22,11 @@ distinctb [] = true
 distinctb (a ∷ l) = not (memb a l) && distinctb l
 
 -- what a function gives for n numbers from i on
-abbrev pub from : (ℕ → ℕ) → ℕ → ℕ → List ℕ
+abbrev pub from : {A : Type 0} → (ℕ → A) → ℕ → ℕ → List A
 from f i zero = []
 from f i (suc n) = f i ∷ from f (suc i) n
+
+-- lists one behind the other
+abbrev pub joined : {A : Type 0} → List (List A) → List A
+joined [] = []
+joined (l ∷ ls) = l ++ joined ls

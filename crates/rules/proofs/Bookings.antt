@@ -1,5 +1,5 @@
 -- What a call does to the area. A granted admission has passed every check, so its path makes a circuit that fits, and
--- the area stays well formed with the circuit more; a release takes out the one circuit with its number.
+-- the area stays well formed with the circuit more at its place; a release takes out the one circuit with its number.
 -- Assumes nothing.
 use Prim.Native.Nat.{ℕ, suc, ◌≤◌, ◌<◌}
 use mathlib.Core.Path.{◌≡◌, refl, sym, ap, ◌∙◌, subst}
@@ -8,7 +8,7 @@ use mathlib.Core.List.{List}
 use mathlib.Core.Logic.{◌⊎◌, inl, inr}
 use native.Mathlib.Omega.{arith}
 use lib.ListN.{length, get_or}
-use borrow.Author.Tests.{leb-true, ltb-true}
+use borrow.Author.Tests.{leb-true}
 use Rattle.network.specs.Limits.{most_path_links}
 use Rattle.network.specs.Lists.{memb}
 use Rattle.network.specs.Net.{Net, IsPath}
@@ -19,17 +19,18 @@ use Rattle.network.proofs.Paths.{walk_links}
 use Rattle.network.proofs.Short.{path_short}
 use Rattle.area.specs.Layout.{most_circuits}
 use Rattle.area.specs.Station.{Station, station}
-use Rattle.area.specs.Books.{holds, free, books, net}
-use Rattle.area.specs.Held.{found_at}
+use Rattle.area.specs.Books.{numbers, holds, free, books, net}
+use Rattle.area.specs.Held.{place_of}
 use Rattle.area.specs.Formed.{CircuitFits, SoundStation, WellFormed}
 use Rattle.area.specs.Moves.{with_circuit, without_number, Untouched}
 use Rattle.search.specs.Result.{GrantedByOne, GrantedByTwo}
 use Rattle.area.specs.Refusals.{refuses, grants}
-use Rattle.area.proofs.Found.{holds_found}
-use Rattle.area.proofs.Added.{added_long, added_untouched, added_station}
-use Rattle.area.proofs.Removed.{removed_long, removed_untouched, removed_station}
+use Rattle.area.proofs.Found.{rising_differ}
+use Rattle.area.proofs.Places.{place_of_most, held_place}
+use Rattle.area.proofs.Added.{added_long, added_untouched, added_station, added_clear}
+use Rattle.area.proofs.Removed.{removed_long, removed_untouched, removed_station, removed_clear}
 use Rattle.area.proofs.ReadCases.{links_few, held_few}
-use Rattle.area.proofs.Order.{agrees_eq}
+use Rattle.area.proofs.Order.{count_placed}
 use Rattle.area.proofs.Keeps.{sound_added, sound_removed, without_one, without_gone}
 use Rattle.rules.specs.Requests.{RequestFits}
 use Rattle.rules.specs.Replies.{PathGrant, PathReply, ReleaseReply, releases}
@@ -118,22 +119,29 @@ module _ (w : List ℕ) (work path c : ℕ) (r : Request) (g : PathGrant) (e : a
   -- one more is held; since 12 is refused only where as many as may be held are, so many can be
   pub admitted_count : (books_in (booked w c r.terms.units (grants g))).count ≡ suc (books_in w).count
   unfolding books
-  admitted_count = ap (λ (s : Station). length s.held) admitted_station
+  admitted_count =
+      ap (λ (s : Station). length s.held) admitted_station ∙ count_placed (circuit_for c r.terms.units p) (station w).held
+
+  room : get_or w 2 0 < most_circuits
+  room = omega (arith, count_is w, admission_granted.few)
 
   granted_formed : WellFormed (booked w c r.terms.units (grants g))
   unfolding booked books
   granted_formed =
       record {
-        long = omega (arith, added_long w (circuit_for c r.terms.units p), admission_granted.formed.long);
+        long = omega (arith, added_long w (place_of w c) (circuit_for c r.terms.units p), admission_granted.formed.long);
         sound =
             subst SoundStation (sym admitted_station)
             (sound_added (station w) (circuit_for c r.terms.units p) admission_granted.formed.sound admission_granted.few admitted_fits
             admission_granted.number.new admitted_free);
+        clear =
+            added_clear w (place_of w c) (circuit_for c r.terms.units p) admission_granted.formed.long room short
+            (place_of_most w c) admission_granted.formed.clear;
       }
 
   granted_untouched : Untouched w (booked w c r.terms.units (grants g))
   unfolding booked
-  granted_untouched = added_untouched w (circuit_for c r.terms.units p) (omega (arith, count_is w, admission_granted.few)) short
+  granted_untouched = added_untouched w (place_of w c) (circuit_for c r.terms.units p) room (place_of_most w c) short
 
 -- ---- any admission
 -- a refusal leaves the words as they are
@@ -168,7 +176,7 @@ module _ (w : List ℕ) (work path c : ℕ) (r : Request) where
       go (refuses n) e = refl
       go (grants g) e =
           record {
-            holds = (agrees_eq (admitted_station w work path c r g e)).held;
+            holds = ap (λ (s : Station). s.held) (admitted_station w work path c r g e);
             formed = granted_formed w work path c r g e;
             untouched = granted_untouched w work path c r g e;
           }
@@ -186,21 +194,25 @@ module _ (w : List ℕ) (c : ℕ) (e : release w c ≡ releases) where
   pub released_station : station (cleared w c releases) ≡ without_number (station w) c
   unfolding cleared
   released_station =
-      removed_station w c passed.0.long (links_few w passed.0) (held_few w passed.0) passed.0.sound.differ passed.1
+      removed_station w c passed.0.long (links_few w passed.0) (held_few w passed.0) passed.0.sound.rising passed.1
+
+  -- the number's place is that of a held circuit
+  there : place_of w c < get_or w 2 0
+  unfolding station
+  there = (held_place w c passed.0.sound.rising passed.1).0
 
   unheld_formed : WellFormed (cleared w c releases)
   unfolding cleared
   unheld_formed =
       record {
-        long = omega (arith, removed_long w (found_at w (get_or w 2 0) c), passed.0.long);
+        long = omega (arith, removed_long w (place_of w c), passed.0.long);
         sound = subst SoundStation (sym released_station) (sound_removed (station w) c passed.0.sound);
+        clear = removed_clear w (place_of w c) (omega (arith, held_few w passed.0, passed.0.long)) there passed.0.clear;
       }
 
   unheld_untouched : Untouched w (cleared w c releases)
-  unfolding cleared station
-  unheld_untouched =
-      removed_untouched w (found_at w (get_or w 2 0) c) (held_few w passed.0)
-      (ltb-true (found_at w (get_or w 2 0) c) (get_or w 2 0) (sym (holds_found w (get_or w 2 0) c) ∙ passed.1))
+  unfolding cleared
+  unheld_untouched = removed_untouched w (place_of w c) (held_few w passed.0) there
 
   -- the number may be used again, and there is a place for a circuit
   pub released_again : NumberFits (books_in (cleared w c releases)) c × ((books_in (cleared w c releases)).count < most_circuits)
@@ -211,7 +223,7 @@ module _ (w : List ℕ) (c : ℕ) (e : release w c ≡ releases) where
       again =
           let range = held_number (station w).table (station w).held c passed.0.sound.each passed.1 in (
             record { least = range.0; most = range.1; new = without_gone c (station w).held },
-            omega (arith, without_one c (station w).held passed.0.sound.differ passed.1, passed.0.sound.few),
+            omega (arith, without_one c (station w).held (rising_differ (numbers (station w).held) passed.0.sound.rising) passed.1, passed.0.sound.few),
           )
 
 -- ---- any release
@@ -243,7 +255,7 @@ module _ (w : List ℕ) (c : ℕ) where
       go (refuses n) e = refl
       go (grants _) e =
           record {
-            holds = (agrees_eq (released_station w c e)).held;
+            holds = ap (λ (s : Station). s.held) (released_station w c e);
             formed = unheld_formed w c e;
             untouched = unheld_untouched w c e;
           }

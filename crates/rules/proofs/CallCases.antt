@@ -3,25 +3,23 @@
 -- Assumes nothing.
 use Prim.Native.Nat.{ℕ, ◌≤◌, ◌<◌}
 use mathlib.Core.Path.{◌≡◌, refl, ◌∙◌}
-use mathlib.Core.Bool.{Bool, true, false, not, cond}
+use mathlib.Core.Bool.{Bool, true, false, cond, and-false}
 use mathlib.Core.List.{List, [], ◌++◌}
-use native.Mathlib.Omega.{arith}
 use lib.Dec.{ltb, leb}
 use lib.ListN.{get_or}
 use borrow.Author.Tests.{leb-true, le-leb, ltb-true, lt-ltb, le-ltb}
 use Rattle.network.specs.Limits.{path_words, work_words}
 use Rattle.network.specs.declared.Request.{Request}
-use Rattle.area.specs.Layout.{most_circuits}
+use Rattle.area.specs.Layout.{least_number, most_circuits, most_number}
 use Rattle.area.specs.Station.{nodes_in, table_in, station}
-use Rattle.area.specs.Books.{books}
-use Rattle.std.specs.Prelude.{Option, Some, None, is_none}
-use Rattle.area.specs.Held.{found_at, FoundAt}
+use Rattle.network.specs.Ranges.{in_range}
+use Rattle.area.specs.Books.{holds, books}
+use Rattle.area.specs.Held.{place_of}
 use Rattle.area.specs.Formed.{well_formed}
 use Rattle.area.specs.Refusals.{Reply, refuses, grants}
 use Rattle.area.specs.Checks.{unless_refused, checked}
 use Rattle.area.proofs.Checks.{refused_first, granted_first}
 use Rattle.network.proofs.Tests.{zero_one}
-use Rattle.area.proofs.Found.{holds_found}
 use Rattle.rules.proofs.Facts.{count_is}
 use Rattle.rules.specs.Requests.{request_fits}
 use Rattle.rules.specs.Replies.{releases}
@@ -70,23 +68,13 @@ module _ (w : List ℕ) (work path : ℕ) (r : Request) where
     quote_is = rw formed refl
 
     pub quote_refused : (k : ℕ) → refuses k ≡ request_checked w work path r → refuses k ≡ quote w work path r
-    quote_refused k e = refused_first (request_checks (books_in w) work path r) [] (searched (books_in w) r) k e ∙ quote_is
+    quote_refused k e = refused_first (request_checks (books_in w) work path r) [] (searched (books_in w) r) tt k e ∙ quote_is
 
     pub quote_passed : grants tt ≡ request_checked w work path r → searched (books_in w) r ≡ quote w work path r
-    quote_passed e = granted_first (request_checks (books_in w) work path r) [] (searched (books_in w) r) refl e ∙ quote_is
+    quote_passed e = granted_first (request_checks (books_in w) work path r) [] (searched (books_in w) r) tt tt refl e ∙ quote_is
 
 -- ---- what an admission asks besides
 module _ (w : List ℕ) where
-  -- whether a number is held
-  held_is : (c : ℕ) → (books_in w).holds c ≡ ltb (found_at w (get_or w 2 0) c) (get_or w 2 0)
-  unfolding books station
-  held_is c = holds_found w (get_or w 2 0) c
-
-  -- a number that was sought and not found is not held
-  pub found_none : (c : ℕ) (o : Option ℕ) → FoundAt w (get_or w 2 0) c o → is_none o ≡ not ((books_in w).holds c)
-  found_none c None e = rw (held_is c, e, le-ltb (get_or w 2 0) (get_or w 2 0) (omega arith)) refl
-  found_none c (Some j) e = rw (held_is c, lt-ltb (found_at w (get_or w 2 0) c) (get_or w 2 0) (omega (arith, e.0, e.1))) refl
-
   -- ---- an admission: the same, with the checks of its number ahead of the search
   module _ (work path c : ℕ) (r : Request) where
     pub admission_unfit : well_formed w ≡ false → refuses 5 ≡ admission w work path c r
@@ -101,40 +89,49 @@ module _ (w : List ℕ) where
 
       pub admission_refused : (k : ℕ) → refuses k ≡ request_checked w work path r → refuses k ≡ admission w work path c r
       admission_refused k e =
-          refused_first (request_checks (books_in w) work path r) (number_checks (books_in w) c) (searched (books_in w) r) k e ∙ admission_is
+          refused_first (request_checks (books_in w) work path r) (number_checks (books_in w) c) (searched (books_in w) r) tt k e ∙ admission_is
 
       module _ (passed : grants tt ≡ request_checked w work path r) where
         own_left : checked refuses (number_checks (books_in w) c ++ []) (searched (books_in w) r) ≡ admission w work path c r
         own_left =
-            granted_first (request_checks (books_in w) work path r) (number_checks (books_in w) c) (searched (books_in w) r) refl passed
+            granted_first (request_checks (books_in w) work path r) (number_checks (books_in w) c) (searched (books_in w) r) tt tt refl passed
             ∙ admission_is
 
         pub number_refused : (k : ℕ) → refuses k ≡ number_checked w c → refuses k ≡ admission w work path c r
-        number_refused k e = refused_first (number_checks (books_in w) c) [] (searched (books_in w) r) k e ∙ own_left
+        number_refused k e = refused_first (number_checks (books_in w) c) [] (searched (books_in w) r) (place_of w c) k e ∙ own_left
 
-        pub admission_passed : grants tt ≡ number_checked w c → searched (books_in w) r ≡ admission w work path c r
-        admission_passed e = granted_first (number_checks (books_in w) c) [] (searched (books_in w) r) refl e ∙ own_left
+        pub admission_passed : (j : ℕ) → grants j ≡ number_checked w c → searched (books_in w) r ≡ admission w work path c r
+        admission_passed j e = granted_first (number_checks (books_in w) c) [] (searched (books_in w) r) (place_of w c) j refl e ∙ own_left
 
   -- a number out of its range or held, and as many circuits as may be held, refuse it; else both checks pass
   module _ (c : ℕ) where
-    pub fails_11 : number_fits (books_in w) c ≡ false → refuses 11 ≡ number_checked w c
-    fails_11 e = rw e refl
+    pub fails_range : in_range least_number most_number c ≡ false → refuses 11 ≡ number_checked w c
+    unfolding number_fits
+    fails_range e = rw e refl
 
-    module _ (fits : number_fits (books_in w) c ≡ true) where
+    pub fails_held : holds (station w).held c ≡ true → refuses 11 ≡ number_checked w c
+    unfolding number_fits books
+    fails_held e = rw (e, and-false (in_range least_number most_number c)) refl
+
+    module _ (range : in_range least_number most_number c ≡ true) (new : holds (station w).held c ≡ false) where
+      fits : number_fits (books_in w) c ≡ true
+      unfolding number_fits books
+      fits = rw (range, new) refl
+
       pub fails_12 : most_circuits ≤ get_or w 2 0 → refuses 12 ≡ number_checked w c
       fails_12 high = rw (fits, count_is w, le-ltb (get_or w 2 0) most_circuits high) refl
 
-      pub number_passes : get_or w 2 0 < most_circuits → grants tt ≡ number_checked w c
-      number_passes low = rw (fits, count_is w, lt-ltb (get_or w 2 0) most_circuits low) refl
+      pub number_passes : get_or w 2 0 < most_circuits → (j : ℕ) → j ≡ place_of w c → grants j ≡ number_checked w c
+      number_passes low j is = rw (fits, count_is w, lt-ltb (get_or w 2 0) most_circuits low, is) refl
 
-  -- what a call that passes them may rely on
-  pub number_low : (c : ℕ) → grants tt ≡ number_checked w c → get_or w 2 0 < most_circuits
-  number_low c e = go (number_fits (books_in w) c) (ltb (books_in w).count most_circuits) refl e
+  -- what a call that passes them may rely on: there is room, and the number's place is known
+  pub number_passed : (c j : ℕ) → grants j ≡ number_checked w c → (get_or w 2 0 < most_circuits) × (j ≡ place_of w c)
+  number_passed c j e = go (number_fits (books_in w) c) (ltb (books_in w).count most_circuits) refl e
     where
       go : (b d : Bool) → ltb (books_in w).count most_circuits ≡ d
-          → grants tt ≡ unless_refused {A = Reply (Unit {0})} refuses (grants tt) (cond b (cond d 0 12) 11)
-          → get_or w 2 0 < most_circuits
-      go true true q e = rw (← count_is w) (ltb-true _ most_circuits q)
+          → grants j ≡ unless_refused {A = Reply ℕ} refuses (grants (place_of w c)) (cond b (cond d 0 12) 11)
+          → (get_or w 2 0 < most_circuits) × (j ≡ place_of w c)
+      go true true q e = (rw (← count_is w) (ltb-true _ most_circuits q), cc)
       go true false q e = absurd (zero_one cc)
       go false d q e = absurd (zero_one cc)
 
@@ -143,10 +140,10 @@ module _ (w : List ℕ) where
   unfolding release
   release_unfit c e = rw e refl
 
-  pub release_unheld : (c : ℕ) → well_formed w ≡ true → FoundAt w (get_or w 2 0) c None → refuses 13 ≡ release w c
-  unfolding release
-  release_unheld c e none = rw (e, held_is c, le-ltb (found_at w (get_or w 2 0) c) (get_or w 2 0) (omega (arith, none))) refl
+  pub release_unheld : (c : ℕ) → well_formed w ≡ true → holds (station w).held c ≡ false → refuses 13 ≡ release w c
+  unfolding release books
+  release_unheld c e none = rw (e, none) refl
 
-  pub release_held : (c j : ℕ) → well_formed w ≡ true → FoundAt w (get_or w 2 0) c (Some j) → releases ≡ release w c
-  unfolding release
-  release_held c j e found = rw (e, held_is c, lt-ltb (found_at w (get_or w 2 0) c) (get_or w 2 0) (omega (arith, found.0, found.1))) refl
+  pub release_held : (c : ℕ) → well_formed w ≡ true → holds (station w).held c ≡ true → releases ≡ release w c
+  unfolding release books
+  release_held c e has = rw (e, has) refl

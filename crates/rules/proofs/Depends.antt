@@ -1,22 +1,17 @@
--- Answers depend on the decoded station alone: each check reads whether the area is well formed, the lengths and numbers
--- that were given, or the books, and the search reads the network that the books show.
+-- Answers depend on whether the area is well formed and on its books: each check reads the first, the lengths and numbers that
+-- were given, or the books, and the search reads the network that the books show.
 -- Assumes nothing.
 use Prim.Native.Nat.{ℕ}
-use mathlib.Core.Path.{◌≡◌, ap, ap₂}
+use mathlib.Core.Path.{◌≡◌, ap₂}
 use mathlib.Core.Bool.{Bool}
 use mathlib.Core.List.{List, [], ◌∷◌, ◌++◌}
-use lib.Dec.{leb}
-use lib.ListN.{length}
 use Rattle.network.specs.declared.Request.{Request}
 use Rattle.search.specs.Result.{outcome, Alike}
 use Rattle.search.proofs.Result.{outcome_depends}
-use Rattle.area.specs.Layout.{area_words}
-use Rattle.area.specs.Station.{station}
-use Rattle.area.specs.Books.{Books, books, net}
+use Rattle.area.specs.Books.{Books, net}
 use Rattle.area.specs.Formed.{well_formed}
 use Rattle.area.specs.Refusals.{refuses}
 use Rattle.area.specs.Checks.{◌unless◌, checked}
-use Rattle.area.proofs.Depends.{formed_depends}
 use Rattle.rules.specs.Replies.{PathReply, ReleaseReply, releases}
 use Rattle.rules.specs.Calls.{searched, request_checks, number_checks, quote, admission, release}
 use Rattle.rules.specs.Meaning.{books_in}
@@ -46,10 +41,6 @@ module _ (w w' : List ℕ) where
   pub release_depends : (c : ℕ) → well_formed w ≡ well_formed w' → books_in w ≡ books_in w' → release w c ≡ release w' c
   unfolding release
   release_depends c formed same = ap₂ (freed c) formed same
-
-  -- equal stations, in areas that are both long enough or both not, decide both
-  pub station_decides : leb area_words (length w) ≡ leb area_words (length w') → station w ≡ station w' → (well_formed w ≡ well_formed w') × (books_in w ≡ books_in w')
-  station_decides long same = (formed_depends w w' long same, ap books same)
 
 -- ---- the search
 -- the granted path and its problem depend on n, which links are usable, the links' ends, delays and costs

@@ -3,7 +3,7 @@
 -- say.
 -- Assumes nothing.
 use Prim.Native.Nat.{ℕ, ◌≤◌}
-use mathlib.Core.Path.{◌≡◌, refl, sym, ap, ◌∙◌, subst}
+use mathlib.Core.Path.{◌≡◌, refl, sym, ap, ap₂, ◌∙◌, subst}
 use mathlib.Core.Bool.{true}
 use mathlib.Core.List.{List, ◌++◌}
 use native.Mathlib.Nat.{zero-add}
@@ -22,6 +22,7 @@ use Rattle.search.specs.Result as result
 use Rattle.area.specs.Station.{nodes_in, table_in, station, words_at}
 use Rattle.area.specs.Books.{books}
 use Rattle.area.specs.Formed.{WellFormed, well_formed}
+use Rattle.area.specs.Held.{place_of}
 use Rattle.area.specs.Moves.{added}
 use Rattle.area.proofs.Formed.{formed_says}
 use Rattle.area.proofs.WordsAt.{words_list}
@@ -56,7 +57,7 @@ path_reply g (granted which p) l = refl
 -- the stored circuit is the reply's, read back from the path buffer
 module _ (w : List ℕ) (c u : ℕ) (g : Numbers) (l : List ℕ) where
   stored : (a : PathReply) → answer_of a ≡ grants g
-      → added w (record { number = c; units = u; path = words_at (path_after a l) 0 g.links }) ≡ booked w c u a
+      → added w (place_of w c) (record { number = c; units = u; path = words_at (path_after a l) 0 g.links }) ≡ booked w c u a
   unfolding answer_of path_after booked
   stored (refuses k) e = absurd (zero_one cc)
   stored (grants h) e =
@@ -65,12 +66,12 @@ module _ (w : List ℕ) (c u : ℕ) (g : Numbers) (l : List ℕ) where
       let path : words_at (p ++ drop (length p) l) 0 (length p) ≡ p = words_list (p ++ drop (length p) l) 0 p (λ i low. rw zero-add (get_or-append p (drop (length p) l) 0 i low)) in
       rw (many, path) refl
 
-  -- the same, with the buffer, the count and the part as the code holds them
-  pub stored_as : (a : PathReply) → answer_of a ≡ grants g → (buffer : List ℕ) → buffer ≡ path_after a l → (count : ℕ) → count ≡ g.links
+  -- the same, with the place, the buffer, the count and the part as the code holds them
+  pub stored_as : (a : PathReply) → answer_of a ≡ grants g → (j : ℕ) → j ≡ place_of w c → (buffer : List ℕ) → buffer ≡ path_after a l → (count : ℕ) → count ≡ g.links
       → (p : List ℕ) → p ≡ words_at buffer 0 count
-      → added w (record { number = c; units = u; path = p }) ≡ booked w c u a
-  stored_as a e buffer holds count is p part =
-      ap (λ (q : List ℕ). added w (record { number = c; units = u; path = q }))
+      → added w j (record { number = c; units = u; path = p }) ≡ booked w c u a
+  stored_as a e j there buffer holds count is p part =
+      ap₂ (λ (k : ℕ) (q : List ℕ). added w k (record { number = c; units = u; path = q })) there
       (part ∙ ap (λ (b : List ℕ). words_at b 0 count) holds ∙ ap (words_at (path_after a l) 0) is)
       ∙ stored a e
 

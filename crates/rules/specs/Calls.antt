@@ -7,9 +7,9 @@ use Rattle.network.specs.declared.Request.{Request}
 use Rattle.network.specs.Ranges.{in_range}
 use Rattle.search.specs.Result.{outcome}
 use Rattle.area.specs.Layout.{least_number, most_circuits, most_number}
-use Rattle.area.specs.Station.{station, held_in}
+use Rattle.area.specs.Station.{station}
 use Rattle.area.specs.Books.{Books, books, net}
-use Rattle.area.specs.Held.{found_at}
+use Rattle.area.specs.Held.{place_of}
 use Rattle.area.specs.Formed.{well_formed}
 use Rattle.area.specs.Refusals.{Reply, refuses, grants}
 use Rattle.area.specs.Checks.{Check, ◌unless◌, checked}
@@ -40,8 +40,9 @@ number_checks o c = (11 unless number_fits o c) ∷ (12 unless ltb o.count most_
 abbrev pub request_checked : List ℕ → ℕ → ℕ → Request → Reply (Unit {0})
 request_checked w work path r = checked refuses (request_checks (books_in w) work path r) (grants tt)
 
-abbrev pub number_checked : List ℕ → ℕ → Reply (Unit {0})
-number_checked w c = checked refuses (number_checks (books_in w) c) (grants tt)
+-- those of a circuit number give its place
+abbrev pub number_checked : List ℕ → ℕ → Reply ℕ
+number_checked w c = checked refuses (number_checks (books_in w) c) (grants (place_of w c))
 
 -- the checks of a quote on an area w
 abbrev pub quote_checks : List ℕ → ℕ → ℕ → Request → List Check
@@ -63,11 +64,11 @@ unfoldable pub admission : List ℕ → ℕ → ℕ → ℕ → Request → Path
 unfolding well_formed station books request_fits number_fits searched
 admission w work path c r = checked refuses (admit_checks w work path c r) (searched (books_in w) r)
 
--- the area after an admission's reply: a granted one adds the circuit
+-- the area after an admission's reply: a granted one adds the circuit at its place
 unfoldable pub booked : List ℕ → ℕ → ℕ → PathReply → List ℕ
-unfolding added
+unfolding added place_of
 booked w c u (refuses k) = w
-booked w c u (grants g) = added w (circuit_for c u g.path)
+booked w c u (grants g) = added w (place_of w c) (circuit_for c u g.path)
 
 unfoldable pub release : List ℕ → ℕ → ReleaseReply
 unfolding well_formed station books
@@ -75,6 +76,6 @@ release w c = checked refuses (release_checks w c) releases
 
 -- the area after a release's reply: a granted one takes out the circuit with this number
 unfoldable pub cleared : List ℕ → ℕ → ReleaseReply → List ℕ
-unfolding removed found_at
+unfolding removed place_of
 cleared w c (refuses k) = w
-cleared w c (grants _) = removed w (found_at w (held_in w) c)
+cleared w c (grants _) = removed w (place_of w c)

@@ -7,7 +7,7 @@ use Rattle.network.specs.declared.Request.{Request}
 use Rattle.area.specs.Station.{Circuit, station}
 use Rattle.area.specs.Books.{Books, books, net}
 use Rattle.area.specs.Formed.{WellFormed}
-use Rattle.area.specs.Order.{Same}
+use Rattle.area.specs.Order.{placed}
 use Rattle.area.specs.Moves.{without, Untouched}
 use Rattle.area.specs.Refusals.{Rule, ◌when◌, Reply, refuses, grants, Answered}
 use Rattle.network.specs.declared.Grant.{Grant as Numbers}
@@ -45,18 +45,18 @@ Cleared w c a = Answered (λ _. Unit {0}) ((5 when (WellFormed w → ⊥)) ∷ r
 abbrev pub circuit_for : ℕ → ℕ → List ℕ → Circuit
 circuit_for c u p = record { number = c; units = u; path = p }
 
--- an area w' that holds these circuits, in any order, and is otherwise as w: the order of circuits, unused path words and
--- words past the last circuit are open
+-- an area w' that holds these circuits and is otherwise as w: it is well formed, so they stand by rising number and their
+-- unused path words are 0; words past the last circuit are open
 pub record Rebooked (w w' : List ℕ) (held : List Circuit) : Type 0 where
-  pub holds : Same (station w').held held
+  pub holds : (station w').held ≡ held
   pub formed : WellFormed w'
   pub untouched : Untouched w w'
 
--- after an admission the granted circuit is held besides, after a release the one with its number is not; a refusal
--- changes no word
+-- after an admission the granted circuit is held besides, at its place, after a release the one with its number is not; a
+-- refusal changes no word
 abbrev pub AreaBooked : List ℕ → ℕ → ℕ → PathReply → List ℕ → Type 0
 AreaBooked w c u (refuses k) w' = w' ≡ w
-AreaBooked w c u (grants g) w' = Rebooked w w' (circuit_for c u g.path ∷ (station w).held)
+AreaBooked w c u (grants g) w' = Rebooked w w' (placed (circuit_for c u g.path) (station w).held)
 
 abbrev pub AreaCleared : List ℕ → ℕ → ReleaseReply → List ℕ → Type 0
 AreaCleared w c (refuses k) w' = w' ≡ w

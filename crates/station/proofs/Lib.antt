@@ -1,2 +1,4 @@
 -- Lemmas of this crate's proofs.
 mod Closed
+mod Opened
+mod Unused

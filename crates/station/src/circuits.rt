@@ -1,63 +1,45 @@
-// A held circuit as its words say it, and its check: ranges, and a path of the table. A path is checked with the node set.
-ghost use Rattle.std.specs.Prelude.{◌≡◌, ℕ, ◌≤◌, ◌<◌, length, get_or, is_some, IfSome};
-ghost use Rattle.network.specs.Limits.{most_links};
+// A held circuit as its words say it, and the check of these words, the table aside.
+ghost use Rattle.std.specs.Prelude.{◌≡◌, ◌≤◌, length, is_some, IfSome};
 ghost use Rattle.area.specs.Layout.{circuit_words};
 ghost use Rattle.area.specs.Station.{circuit_of};
-ghost use Rattle.area.specs.Formed.{goes_on, path_fits, circuit_fits};
+ghost use Rattle.area.specs.Formed.{numbers_fit, unused_clear};
 
 use crate::layout;
-use crate::table::Table;
-use links::node_set::NodeSet;
 use network::limits::{LEAST_PATH_LINKS, LEAST_UNITS, MOST_PATH_LINKS, MOST_UNITS};
 
-// Whether link `i` goes on from node `v`, to a node that is not in `seen`.
-#[tactic(auto, unfolding(area::specs::Formed::goes_on))]
-fn goes_on(table: &Table<'_>, v: usize, seen: NodeSet, i: usize) -> bool
-    ensures { result ≡ goes_on table.now.links.count table.now.links.words.now v seen i }
+// Whether each path word that the path does not use is 0, in the words of a circuit. All are put together and asked once, so
+// that a path's length costs no wrong guess of the processor.
+pub fn unused_clear(words: &[u32]) -> bool
+    requires { length words.now ≡ circuit_words }
+    ensures { result ≡ unused_clear words.now }
 {
-    if table.links.count <= i {
-        return false;
+    let count = words[2] as usize;
+    let mut left = 0;
+    for k in 0..MOST_PATH_LINKS as usize {
+        left |= if k < count {
+            0
+        } else {
+            words[layout::PATH_START + k]
+        };
     }
-    let link = table.links.get(i);
-    link.from == v && !seen.contains(link.to)
+    left == 0
 }
 
-// Whether `path` is a path of the table.
-fn path_fits(table: &Table<'_>, path: &[u32]) -> bool
-    requires { 1 ≤ length path.now }
-    ensures { result ≡ path_fits table.now.links.count table.now.links.words.now path.now }
-{
-    let start = path[0] as usize;
-    if table.links.count <= start {
-        return false;
-    }
-    let mut v = table.links.get(start).from;
-    let mut seen = NodeSet::new().with(v);
-    for &link in path {
-        let i = link as usize;
-        if !goes_on(table, v, seen, i) {
-            return false;
-        }
-        v = table.links.get(i).to;
-        seen = seen.with(v);
-    }
-    true
-}
-
-// A circuit. Each link number of its path is below the most links that a table has.
+// A circuit. Its path has a link or more.
 #[derive(Clone, Copy)]
 pub struct Circuit<'a> {
     pub number: u32,
     pub units: u32,
     pub path: &'a [u32],
-    ghost links: { (k : ℕ) → k < length path.now → get_or path.now k 0 < most_links },
+    ghost some: { 1 ≤ length path.now },
 }
 
 impl<'a> Circuit<'a> {
-    // The circuit of these words, where it fits the table. `Places::get` hands it those of one place.
-    pub fn read(words: &'a [u32], table: &Table<'_>) -> Option<Circuit<'a>>
+    // The circuit of these words, where its number, its units and its link count are in their ranges. `Places::get` hands it
+    // those of one place.
+    pub fn read(words: &'a [u32]) -> Option<Circuit<'a>>
         requires { length words.now ≡ circuit_words }
-        ensures fits { is_some result ≡ circuit_fits table.now.links.count table.now.links.words.now (circuit_of words.now) }
+        ensures fits { is_some result ≡ numbers_fit (circuit_of words.now) }
         ensures is { IfSome result (λ c. circuit_of words.now ≡ record { number = c.number; units = c.units; path = c.path.now }) }
     {
         let number = words[0];
@@ -69,10 +51,7 @@ impl<'a> Circuit<'a> {
         {
             return None;
         }
-        let path = layout::part(words, 3, count as usize);
-        if !path_fits(table, path) {
-            return None;
-        }
+        let path = layout::part(words, layout::PATH_START, count as usize);
         Some(Circuit {
             number,
             units,

@@ -1,10 +1,11 @@
 // A well-formed area. Reading one is the check with which every call on a loaded area begins; it takes any words.
 ghost use Rattle.std.specs.Prelude.{◌≡◌, true, ℕ, get_or, is_ok, is_some, IfOk, IfErr, IfSome};
 ghost use Rattle.area.specs.declared.refusal.Refusal.TheVariants.{NotWellFormed};
-ghost use Rattle.area.specs.Station.{nodes_in, links_in, held_in, table_in};
+ghost use Rattle.area.specs.Station.{nodes_in, links_in, held_in, table_in, station};
+ghost use Rattle.area.specs.Books.{holds};
 ghost use Rattle.area.specs.Formed.{well_formed};
 ghost use Rattle.area.specs.FreeIn.{free_in};
-ghost use Rattle.area.specs.Held.{FoundAt};
+ghost use Rattle.area.specs.Held.{place_of};
 
 use crate::places::Places;
 use crate::table::{Table, links_in};
@@ -85,10 +86,19 @@ impl<'a> Station<'a> {
         }
     }
 
-    // The place of the held circuit with this number, if there is one.
-    pub fn find(&self, number: u32) -> Option<usize>
-        ensures { FoundAt self.now.area.now (held_in self.now.area.now) number result }
+    // The place of this circuit number: behind those with a lower one.
+    #[tactic(auto, unfolding(area::specs::Held::place_of))]
+    pub fn place_of(&self, number: u32) -> usize
+        ensures { result ≡ place_of self.now.area.now number }
     {
-        self.places().find(number)
+        self.places().of(number)
+    }
+
+    // Whether the circuit at a number's place has this number.
+    pub fn holds(&self, number: u32, j: usize) -> bool
+        requires { j ≡ place_of self.now.area.now number }
+        ensures { result ≡ holds (station self.now.area.now).held number }
+    {
+        j < self.held() && self.places().number(j) == number
     }
 }

@@ -23,10 +23,13 @@ pub const FIRST_LINK: usize = 3;
 
 pub const TABLE_WORDS: usize = LINK_WORDS * MOST_LINKS;
 
-// Where the circuits begin, the words of one (number, units, link count, path words), and how many may be held.
+// Where the circuits begin, the words of one (number, units, link count, path words), where among these its path words begin,
+// and how many circuits may be held.
 pub const FIRST_CIRCUIT: usize = 1283;
 
 pub const CIRCUIT_WORDS: usize = 34;
+
+pub const PATH_START: usize = 3;
 
 pub const MOST_CIRCUITS: usize = 64;
 
@@ -49,6 +52,7 @@ pub fn figures() -> Layout
         table_words: TABLE_WORDS,
         first_circuit: FIRST_CIRCUIT,
         circuit_words: CIRCUIT_WORDS,
+        path_start: PATH_START,
         most_circuits: MOST_CIRCUITS,
         first_hold: FIRST_HOLD,
         least_number: LEAST_NUMBER,

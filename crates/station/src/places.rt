@@ -1,13 +1,13 @@
-// The places of an area's circuits, and finding one by its number.
-ghost use Rattle.std.specs.Prelude.{◌≡◌, ◌≤◌, ◌<◌, length, is_some, IfSome};
+// The places of an area's circuits, and the place of a number among them.
+ghost use Rattle.std.specs.Prelude.{◌≡◌, ◌≤◌, ◌<◌, length, leb, is_some, IfSome};
+ghost use Rattle.network.specs.Loops.{first};
 ghost use Rattle.area.specs.Layout.{area_words, most_circuits};
 ghost use Rattle.area.specs.Station.{circuit_at};
-ghost use Rattle.area.specs.Held.{number_at, FoundAt};
-ghost use Rattle.area.specs.Formed.{place_fits};
+ghost use Rattle.area.specs.Held.{number_at};
+ghost use Rattle.area.specs.Formed.{rises, words_fit};
 
-use crate::circuits::Circuit;
+use crate::circuits::{Circuit, unused_clear};
 use crate::layout;
-use crate::table::Table;
 
 // The first `count` places of circuits in an area, be it well formed or not.
 #[derive(Clone, Copy)]
@@ -27,27 +27,33 @@ impl<'a> Places<'a> {
         self.area[layout::place(j)]
     }
 
-    // The first of the places whose circuit has this number.
-    pub fn find(&self, number: u32) -> Option<usize>
-        ensures { FoundAt self.now.area.now self.now.count number result }
+    // The first of the places whose number is not below this one, or how many there are.
+    pub fn of(&self, number: u32) -> usize
+        ensures { result ≡ first (λ j. leb number (number_at self.now.area.now j)) self.now.count }
     {
-        (0..self.count).find(|j| self.number(*j) == number)
+        (0..self.count)
+            .find(|j| number <= self.number(*j))
+            .unwrap_or(self.count)
     }
 
-    // The circuit at place `j`, where it fits the table and none before it has its number.
-    pub(crate) fn get(&self, j: usize, table: &Table<'_>) -> Option<Circuit<'a>>
+    // Whether the number at place `j` is above the one before it.
+    fn rises(&self, j: usize) -> bool
         requires { j < self.now.count }
-        ensures fits { is_some result ≡ place_fits table.now.links.count table.now.links.words.now self.now.area.now j }
+        ensures { result ≡ rises self.now.area.now j }
+    {
+        j == 0 || self.number(j - 1) < self.number(j)
+    }
+
+    // The circuit at place `j`, where its words fit; the table is not asked.
+    pub(crate) fn get(&self, j: usize) -> Option<Circuit<'a>>
+        requires { j < self.now.count }
+        ensures fits { is_some result ≡ words_fit self.now.area.now j }
         ensures is { let w = self.now.area.now in
             IfSome result (λ c. circuit_at w j ≡ record { number = c.number; units = c.units; path = c.path.now }) }
     {
-        let at = layout::place(j);
-        let circuit = Circuit::read(layout::part(self.area, at, layout::CIRCUIT_WORDS), table)?;
-        let before = Places {
-            area: self.area,
-            count: j,
-        };
-        if before.find(circuit.number).is_some() {
+        let words = layout::part(self.area, layout::place(j), layout::CIRCUIT_WORDS);
+        let circuit = Circuit::read(words)?;
+        if !unused_clear(words) || !self.rises(j) {
             return None;
         }
         Some(circuit)

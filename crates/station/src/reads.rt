@@ -1,6 +1,7 @@
 // The calls that only read the area: the listing of circuit numbers, and a link's free units.
 ghost use Rattle.std.specs.Prelude.{◌≡◌, ◌++◌, ◌≤◌, length, drop};
-ghost use Rattle.area.specs.Held.{numbers_from};
+ghost use Rattle.network.specs.Lists.{from};
+ghost use Rattle.area.specs.Held.{number_at};
 ghost use Rattle.area.specs.Refusals.{numbered};
 ghost use Rattle.area.specs.Reads.{list_answer, listed, ListMeans, free_answer};
 
@@ -11,16 +12,17 @@ use area::Refusal;
 // The numbers of the circuits at these places. One index goes over both: a place goes by its number.
 fn write_numbers(places: &Places<'_>, numbers: &mut [u32])
     requires { places.now.count ≤ length numbers.old }
-    ensures { numbers.new ≡ numbers_from places.now.area.now 0 places.now.count ++ drop places.now.count numbers.old }
+    ensures { numbers.new ≡ from (number_at places.now.area.now) 0 places.now.count ++ drop places.now.count numbers.old }
 {
     for j in 0..places.count {
         numbers[j] = places.number(j);
     }
 }
 
-// 5 and 14 in this order; else the numbers of the held circuits, each once, and how many they are. The words past
-// them keep theirs. Document 01 leaves the order open: the equation has that of the places, and `means` says of this answer
-// and this buffer what holds in any order.
+// 5 and 14 in this order; else the numbers of the held circuits, rising, and how many they are. The words past them keep
+// theirs.
+// `means` says of this answer and this buffer what document 01 says: the first rule that applies refuses, and the numbers are
+// the held ones and no other.
 pub fn list(area: &[u32], numbers: &mut [u32]) -> Result<u32, Refusal>
     ensures answer { numbered result ≡ list_answer area.now (length numbers.old) }
     ensures numbers { numbers.new ≡ listed area.now numbers.old }

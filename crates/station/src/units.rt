@@ -4,13 +4,14 @@ ghost use Rattle.std.specs.Prelude.{◌≡◌, true, ℕ, ◌-◌, ◌&&◌, get
 ghost use Rattle.network.specs.Words.{field};
 ghost use Rattle.area.specs.Station.{circuits};
 ghost use Rattle.area.specs.Books.{usage};
-ghost use Rattle.area.specs.Formed.{held_fit, units_fit};
+ghost use Rattle.area.specs.Formed.{goes_on, path_fits, circuits_fit};
 ghost use Rattle.area.specs.Units.{enough, taken};
 
 use crate::circuits::Circuit;
 use crate::places::Places;
 use crate::table::Table;
 use links::link::Links;
+use links::node_set::NodeSet;
 use network::limits::MOST_LINKS;
 
 // The capacity of link `i`; 0 past the links of the table.
@@ -25,37 +26,56 @@ fn capacity(links: &Links<'_>, i: usize) -> u32
     }
 }
 
-// Takes the circuit's units of each link of its path; false where a link has fewer, and then nobody reads what is left of
-// `free`.
-fn take(free: &mut [u32; MOST_LINKS], circuit: &Circuit<'_>) -> bool
-    ensures fits { result ≡ enough circuit.now.units circuit.now.path.now free.old }
+// Whether link `i` goes on from node `v`, to a node that is not in `seen`.
+#[tactic(auto, unfolding(area::specs::Formed::goes_on))]
+fn goes_on(table: &Table<'_>, v: usize, seen: NodeSet, i: usize) -> bool
+    ensures { result ≡ goes_on table.now.links.count table.now.links.words.now v seen i }
+{
+    if table.links.count <= i {
+        return false;
+    }
+    let link = table.links.get(i);
+    link.from == v && !seen.contains(link.to)
+}
+
+// Takes the circuit's units of each link of its path; false where that is no path of the table or a link has fewer, and then
+// nobody reads what is left of `free`. The path is gone through once for both, by the node reached and those passed.
+fn take(table: &Table<'_>, free: &mut [u32; MOST_LINKS], circuit: &Circuit<'_>) -> bool
+    ensures fits { result ≡ (path_fits table.now.links.count table.now.links.words.now circuit.now.path.now && enough circuit.now.units circuit.now.path.now free.old) }
     ensures words { result ≡ true → free.new ≡ taken circuit.now.units circuit.now.path.now free.old }
 {
+    let start = circuit.path[0] as usize;
+    if table.links.count <= start {
+        return false;
+    }
+    let mut v = table.links.get(start).from;
+    let mut seen = NodeSet::new().with(v);
     for &link in circuit.path {
         let i = link as usize;
-        if free[i] < circuit.units {
+        if !goes_on(table, v, seen, i) || free[i] < circuit.units {
             return false;
         }
         free[i] -= circuit.units;
+        v = table.links.get(i).to;
+        seen = seen.with(v);
     }
     true
 }
 
-// Each link's free units, where every circuit fits, their numbers differ, and they take at most each link's capacity. A place
+// Each link's free units, where every circuit fits, their numbers rise, and they take at most each link's capacity. A place
 // is a number: the area is read by index.
 pub fn free_units(table: &Table<'_>, places: &Places<'_>) -> Option<[u32; MOST_LINKS]>
     ensures fit { let m = table.now.links.count in
         let words = table.now.links.words.now in
-        let cs = circuits places.now.area.now places.now.count in
-        is_some result ≡ (held_fit m words cs && units_fit m words cs) }
+        is_some result ≡ circuits_fit m words places.now.area.now places.now.count }
     ensures free { let words = table.now.links.words.now in
         let cs = circuits places.now.area.now places.now.count in
         IfSome result (λ free. (i : ℕ) → get_or free i 0 ≡ field words i 4 - usage cs i) }
 {
     let mut free = std::array::from_fn(|i| capacity(&table.links, i));
     for j in 0..places.count {
-        let circuit = places.get(j, table)?;
-        if !take(&mut free, &circuit) {
+        let circuit = places.get(j)?;
+        if !take(table, &mut free, &circuit) {
             return None;
         }
     }

@@ -1,10 +1,18 @@
-//! The goals, held against the rows of the first table. A missed goal is printed and changes nothing else.
+//! The goals, held against the rows of the first table and, with most circuits held, of the second. A missed goal is printed
+//! and changes nothing else.
 
+use crate::implementations::Call;
 use crate::timing::Times;
 
 const LARGEST: (u32, u32) = (32, 256);
 const OF_ALL_ROUNDS: f64 = 0.35;
 const OF_EARLY_STOP: f64 = 1.2;
+
+/// With so many circuits held on the smallest nets a quote, and an admission with its release.
+const SMALLEST: (u32, u32) = (8, 64);
+const MOST_HELD: u32 = 63;
+const QUOTE_HELD: f64 = 1.25;
+const ADMISSION_HELD: f64 = 1.4;
 
 /// The greatest ratio so far, and its row.
 #[derive(Default)]
@@ -31,6 +39,8 @@ pub struct Goals {
     of_all_rounds: Worst,
     of_early_stop: Worst,
     of_own_stop: Worst,
+    quote_held: Worst,
+    admission_held: Worst,
 }
 
 impl Goals {
@@ -42,10 +52,24 @@ impl Goals {
         self.of_own_stop.take(times.of_own_stop(), place);
     }
 
+    /// A row of the second table.
+    pub fn take_held(&mut self, size: (u32, u32), circuits: u32, call: Call, times: &Times) {
+        if (size, circuits) == (SMALLEST, MOST_HELD) {
+            let place = format!("({}, {}), {circuits} held", size.0, size.1);
+            match call {
+                Call::Quote => self.quote_held.take(times.of_early_stop(), &place),
+                Call::Admission => self.admission_held.take(times.of_early_stop(), &place),
+            }
+        }
+    }
+
     pub fn print(&self) {
         let (n, m) = LARGEST;
         self.of_all_rounds.print(&format!("at ({n}, {m}) at most {OF_ALL_ROUNDS} of all rounds"), OF_ALL_ROUNDS);
         self.of_early_stop.print(&format!("nowhere more than {OF_EARLY_STOP} of early stop"), OF_EARLY_STOP);
+        let held = format!("with {MOST_HELD} circuits held at most");
+        self.quote_held.print(&format!("a quote {held} {QUOTE_HELD} of early stop"), QUOTE_HELD);
+        self.admission_held.print(&format!("an admission {held} {ADMISSION_HELD} of early stop"), ADMISSION_HELD);
         let Worst { ratio, place } = &self.of_own_stop;
         println!("besides: with the proved search's own stop the plain one gives at most {ratio:.2}, at {place}");
     }

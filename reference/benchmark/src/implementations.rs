@@ -5,8 +5,18 @@ use crate::jobs::Job;
 use crate::plain::{Rounds, Search};
 use crate::proved::Proved;
 
-/// The number of the circuit that a timed admission books. Held circuits have smaller ones.
-const TIMED: u32 = 60_000;
+/// The number of the circuit that a timed admission books.
+const TIMED: u32 = 30_000;
+
+/// The number of the held circuit of this index. Half of them stand behind the timed one, and move when it comes and goes.
+pub fn held_number(index: u32) -> u32 {
+    let aside = 1 + index / 2;
+    if index.is_multiple_of(2) {
+        TIMED + aside
+    } else {
+        TIMED - aside
+    }
+}
 
 /// A quote, or an admission with the release of what it booked. A refused admission has nothing to release.
 #[derive(Clone, Copy, PartialEq, Eq)]

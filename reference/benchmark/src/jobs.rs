@@ -2,7 +2,7 @@
 //! the plain search. All implementations must give a job the same answer before it is timed.
 
 use crate::answer::{agree, Outcome};
-use crate::implementations::{Call, Implementations, Which};
+use crate::implementations::{held_number, Call, Implementations, Which};
 use crate::plain::Network;
 use crate::proved::Proved;
 use crate::requests::{two_nodes, wide};
@@ -28,7 +28,8 @@ impl Job {
     /// Admits circuits between random nodes, and gives the plain network the same circuits.
     fn hold(&mut self, proved: &mut Proved, n: u32, circuits: u32, seed: u64) -> Result<(), String> {
         let mut random = Random::new(seed);
-        for number in 1..=circuits {
+        for index in 0..circuits {
+            let number = held_number(index);
             let (s, t) = two_nodes(&mut random, n);
             let request = wide(s, t, n - 1);
             let granted = proved.admit(&mut self.area, number, &request);

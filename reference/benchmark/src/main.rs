@@ -25,7 +25,7 @@ fn tables() -> Result<(), String> {
     let mut goals = goals::Goals::default();
     tables::by_outcome(&mut places, &mut implementations, &mut goals)?;
     println!();
-    tables::by_held_circuits(&mut places, &mut implementations)?;
+    tables::by_held_circuits(&mut places, &mut implementations, &mut goals)?;
     println!();
     tables::by_x(&mut places, &mut implementations)?;
     if places.writes() {

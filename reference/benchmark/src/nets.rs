@@ -30,9 +30,7 @@ pub fn row(random: &mut Random, n: u32, m: u32) -> Vec<u32> {
         let v = random.range(1, n - 1);
         ends.push(if random.one_in(2) { (v - 1, v) } else { (v, v - 1) });
     }
-    for i in (1..ends.len()).rev() {
-        ends.swap(i, random.range(0, i as u32) as usize);
-    }
+    random.shuffle(&mut ends);
     weighted(random, &ends)
 }
 

@@ -72,8 +72,13 @@ pub fn by_outcome(places: &mut Places, implementations: &mut Implementations, go
     Ok(())
 }
 
-pub fn by_held_circuits(places: &mut Places, implementations: &mut Implementations) -> Result<(), String> {
+pub fn by_held_circuits(
+    places: &mut Places,
+    implementations: &mut Implementations,
+    goals: &mut Goals,
+) -> Result<(), String> {
     println!("The same by the number of circuits held, for problem one: a quote, then an admission with its release.");
+    println!("Half of the circuits that are held stand behind the timed one and move when it comes and goes.");
     let columns = "    proved  of all rounds  of early stop";
     println!("  n    m  held{columns}{columns}");
     for (n, m) in SIZES {
@@ -82,6 +87,7 @@ pub fn by_held_circuits(places: &mut Places, implementations: &mut Implementatio
             print!("{n:>3}{m:>5}{circuits:>6}");
             for (call, _) in CALLS {
                 let times = measure(places, implementations, call, &mut jobs)?;
+                goals.take_held((n, m), circuits, call, &times);
                 print!("{:>10.2}{:>15.2}{:>15.2}", times.proved, times.of_all_rounds(), times.of_early_stop());
             }
             println!();

@@ -164,7 +164,9 @@ fn filling(rng: &mut Random, net: &Net) -> Vec<Call> {
         let request = Request { units: 1, delay_bound: MOST_DELAY_BOUND, cost_bound: 1_000, ..request(rng, net) };
         Call::Admit { circuit, request, work: lent(rng, 16_384), path: lent(rng, 31) }
     };
-    (1..=90).map(|circuit| admit(rng, circuit)).collect()
+    let mut numbers: Vec<u32> = (1..=90).collect();
+    rng.shuffle(&mut numbers);
+    numbers.into_iter().map(|circuit| admit(rng, circuit)).collect()
 }
 
 /// The case of a seed; the first seeds are those of the cases that go through everything.

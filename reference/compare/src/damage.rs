@@ -1,11 +1,13 @@
-//! Areas with one word changed or too few words.
+//! Areas with one word changed, with two circuits exchanged, or with too few words.
 
 use document01::area::{AREA_WORDS, CIRCUIT_WORDS, FIRST_CIRCUIT, FIRST_HOLD};
+use document01::ledger::PATH_WORDS;
 use document01::table::MOST_NODES;
 use seeded::Random;
 
-/// What is changed. `Unused` are words of the last circuit's place, which no rule reads unless 64 are held; `PastHolds`
-/// are hold words of nodes that are not there, which no rule reads.
+/// What is changed. `Exchanged` are two neighbouring circuits, all their words; `Twice` is a number that its neighbour
+/// gets as well; `UnusedPath` are the held circuits' path words past their links. No rule reads `PastCircuits`, which
+/// are words past the last circuit, and `PastHolds`, which are hold words of nodes that are not there.
 #[derive(Clone, Copy, Debug, PartialEq, Eq, PartialOrd, Ord)]
 pub enum Field {
     Nodes,
@@ -21,12 +23,15 @@ pub enum Field {
     Count,
     PathWord,
     Length,
-    Unused,
     Hold,
     PastHolds,
+    Exchanged,
+    Twice,
+    UnusedPath,
+    PastCircuits,
 }
 
-pub const FIELDS: [Field; 16] = [
+pub const FIELDS: [Field; 19] = [
     Field::Nodes,
     Field::Links,
     Field::Held,
@@ -40,10 +45,30 @@ pub const FIELDS: [Field; 16] = [
     Field::Count,
     Field::PathWord,
     Field::Length,
-    Field::Unused,
     Field::Hold,
     Field::PastHolds,
+    Field::Exchanged,
+    Field::Twice,
+    Field::UnusedPath,
+    Field::PastCircuits,
 ];
+
+impl Field {
+    /// Whether it stands where the held circuits put it, so that its place is not known before the area is.
+    fn is_found(self) -> bool {
+        matches!(self, Field::Exchanged | Field::Twice | Field::UnusedPath | Field::PastCircuits)
+    }
+
+    /// Whether an area may stay well formed with another word there.
+    pub fn may_stay(self) -> bool {
+        !matches!(self, Field::Exchanged | Field::Twice | Field::UnusedPath)
+    }
+
+    /// Whether an area may be spoilt by another word there.
+    pub fn may_spoil(self) -> bool {
+        !matches!(self, Field::PastCircuits | Field::PastHolds)
+    }
+}
 
 #[derive(Clone, Copy, Debug)]
 pub enum Change {
@@ -53,11 +78,17 @@ pub enum Change {
     As(usize),
     /// The area's length.
     Cut(usize),
+    /// The circuit that begins there and the one behind it, each in the other's place.
+    Exchange,
+    /// The number there, as that of the circuit behind it; or the other way about.
+    AsBehind,
+    BehindAs,
 }
 
 #[derive(Clone, Copy, Debug)]
 pub struct Damage {
     pub field: Field,
+    /// For a field that is found: which of the places where it stands, counted from the first one and round again.
     pub word: usize,
     pub change: Change,
 }
@@ -85,10 +116,34 @@ fn place(field: Field, i: usize, j: usize, k: usize, v: usize) -> usize {
         Field::Units => circuit + 1,
         Field::Count => circuit + 2,
         Field::PathWord => circuit + 3 + k,
-        Field::Length => 0,
-        Field::Unused => FIRST_CIRCUIT + CIRCUIT_WORDS * 63 + k,
         Field::Hold | Field::PastHolds => FIRST_HOLD + v,
+        _ => 0,
     }
+}
+
+/// Where the held circuits of an area begin.
+fn held(area: &[u32]) -> impl Iterator<Item = usize> {
+    (0..area[2] as usize).map(|place| FIRST_CIRCUIT + CIRCUIT_WORDS * place)
+}
+
+/// All places where a field that is found stands in an area, which is well formed.
+pub fn found(field: Field, area: &[u32]) -> Vec<usize> {
+    match field {
+        Field::Exchanged | Field::Twice => held(area).take((area[2] as usize).saturating_sub(1)).collect(),
+        Field::UnusedPath => held(area).flat_map(|at| at + 3 + area[at + 2] as usize..at + 3 + PATH_WORDS).collect(),
+        _ => (FIRST_CIRCUIT + CIRCUIT_WORDS * area[2] as usize..FIRST_HOLD).collect(),
+    }
+}
+
+/// Damage to a field that is found, at any of its places.
+fn anywhere(rng: &mut Random, field: Field) -> Damage {
+    let change = match field {
+        Field::Exchanged => Change::Exchange,
+        Field::Twice => rng.pick(&[Change::AsBehind, Change::BehindAs]),
+        // A word that could be a link's number, or any; 0 is what stands there.
+        _ => Change::To(if rng.one_in(2) { rng.range(1, 12) } else { rng.word().max(1) }),
+    };
+    Damage { field, word: rng.word() as usize, change }
 }
 
 /// The field that word `word` of an area of n nodes belongs to; unused path words are path words here.
@@ -118,6 +173,9 @@ fn node(rng: &mut Random, field: Field, n: u32) -> usize {
 pub fn damage(rng: &mut Random, n: u32, m: u32) -> Damage {
     let field = rng.pick(&FIELDS);
     let field = if field == Field::PastHolds && n == MOST_NODES { Field::Hold } else { field };
+    if field.is_found() {
+        return anywhere(rng, field);
+    }
     if field == Field::Length {
         return Damage { field, word: 0, change: Change::Cut(rng.pick(&LENGTHS)) };
     }
@@ -136,12 +194,28 @@ impl Damage {
     /// The damaged copy of an area's words.
     pub fn done(&self, area: &[u32]) -> Vec<u32> {
         let mut words = area.to_vec();
+        let Some(at) = self.place(area) else {
+            return words;
+        };
+        let behind = at + CIRCUIT_WORDS;
         match self.change {
-            Change::To(value) => words[self.word] = value,
-            Change::Add(more) => words[self.word] = words[self.word].wrapping_add(more),
-            Change::As(other) => words[self.word] = words[other],
+            Change::To(value) => words[at] = value,
+            Change::Add(more) => words[at] = words[at].wrapping_add(more),
+            Change::As(other) => words[at] = words[other],
             Change::Cut(length) => words.resize(length, 7),
+            Change::Exchange => words[at..behind + CIRCUIT_WORDS].rotate_left(CIRCUIT_WORDS),
+            Change::AsBehind => words[at] = words[behind],
+            Change::BehindAs => words[behind] = words[at],
         }
         words
+    }
+
+    /// Where an area is changed, or nowhere where its circuits leave no place for this damage.
+    pub fn place(&self, area: &[u32]) -> Option<usize> {
+        if !self.field.is_found() {
+            return Some(self.word);
+        }
+        let places = found(self.field, area);
+        (!places.is_empty()).then(|| places[self.word % places.len()])
     }
 }

@@ -4,7 +4,7 @@
 use document01::Rule;
 
 /// The name by which `compare --fault NAME` switches it on, and the rule that is broken.
-pub const FAULTS: [(&str, Rule); 27] = [
+pub const FAULTS: [(&str, Rule); 30] = [
     ("scaled-down", Rule::RoundUp),
     ("total-scaled-once", Rule::ScaleEachLink),
     ("problem-two-first", Rule::ProblemOneFirst),
@@ -32,4 +32,7 @@ pub const FAULTS: [(&str, Rule); 27] = [
     ("held-at-the-target", Rule::NotHeldAtTarget),
     ("hold-not-scaled", Rule::HoldScaled),
     ("hold-of-the-node-left", Rule::HoldOfInnerNode),
+    ("placed-behind-the-last", Rule::PlacedByNumber),
+    ("unused-words-well-formed", Rule::UnusedClear),
+    ("listed-as-admitted", Rule::ListedByNumber),
 ];

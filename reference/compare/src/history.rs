@@ -3,6 +3,7 @@
 use crate::apart::{check_classes, class, load, read_link_file, sample_classes};
 use crate::buffer::Buffer;
 use crate::cases::{Call, Case};
+use crate::damage::Damage;
 use crate::grants::Choices;
 use crate::memory::Memory;
 use crate::station::{Answer, Checked, Station};
@@ -17,11 +18,12 @@ pub struct Failure {
     pub what: String,
 }
 
-/// What a run leaves: the answers that must stay when quotes are struck, and the bookings.
+/// What a run leaves: the answers that must stay when quotes are struck, the bookings, and their words in the area.
 #[derive(PartialEq, Eq)]
 struct Outcome {
     answers: Vec<Answer>,
     bookings: Option<Vec<Entry>>,
+    circuits: Vec<u32>,
 }
 
 /// What turns the contents of every buffer into others in the second run.
@@ -47,6 +49,9 @@ pub fn run(case: &Case, rules: Rules, tally: &mut Tally) -> Result<(), Failure> 
     }
     if first.bookings != second.bookings {
         return Err(at_end("with the quotes struck the bookings are others"));
+    }
+    if first.circuits != second.circuits {
+        return Err(at_end("with the quotes struck the words of circuits are others"));
     }
     Ok(())
 }
@@ -75,7 +80,7 @@ fn play(
             answers.push(answer);
         }
     }
-    Ok(Outcome { answers, bookings: station.bookings() })
+    Ok(Outcome { answers, bookings: station.bookings(), circuits: station.circuits().to_vec() })
 }
 
 /// The area that a case begins at.
@@ -109,18 +114,39 @@ fn one(
             choices,
             tally,
         ),
-        Call::Damaged { damage, call } => {
-            let words = damage.done(station.area.slice());
-            let mut copy = Station::of_words(&words, rules);
-            let formed = copy.ledger.is_some();
-            tally.damaged(damage.field, formed);
-            tally.holds.damaged(damage.field, words.get(damage.word).copied().unwrap_or(0), formed);
-            let mut apart = Choices::default();
-            let choices = if same_net(&words, station.area.slice()) { choices } else { &mut apart };
-            copy.call(call, memory, choices, tally)
-        }
+        Call::Damaged { damage, call } => damaged(station, damage, call, rules, memory, choices, tally),
         _ => station.call(call, memory, choices, tally),
     }
+}
+
+/// A call on a damaged copy of the area.
+fn damaged(
+    station: &Station,
+    damage: &Damage,
+    call: &Call,
+    rules: Rules,
+    memory: &mut Memory,
+    choices: &mut Choices,
+    tally: &mut Tally,
+) -> Checked {
+    let area = station.area.slice();
+    let words = damage.done(area);
+    let mut copy = Station::of_words(&words, rules);
+    let mut apart = Choices::default();
+    let choices = if same_net(&words, area) { choices } else { &mut apart };
+    let formed = copy.ledger.is_some();
+    let answer = copy.call(call, memory, choices, tally)?;
+    let Some(place) = damage.place(area).filter(|_| words != area) else {
+        return Ok(answer);
+    };
+    // What these fields ask for is so by their kind, whatever the other implementation makes of the area.
+    let Damage { field, .. } = *damage;
+    require(answer.code == 5 || field.may_stay(), &format!("gave {}, but {field:?} damaged gives 5", answer.code))?;
+    require(answer.code != 5 || field.may_spoil(), &format!("gave 5 for {field:?} damaged"))?;
+    tally.damaged(field, formed);
+    tally.holds.damaged(field, words.get(place).copied().unwrap_or(0), formed);
+    tally.order.damaged(field, place);
+    Ok(answer)
 }
 
 /// A quote to t, and again where the hold times stand in the links' delays: all that is answered is the same.

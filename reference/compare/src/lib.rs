@@ -4,8 +4,8 @@
 //! `requests`, `class_tables`, `files`, `damage`), or one of those that go through everything (`sweep`). It is run on
 //! the archive and every call is held against the ledger (`history`, `station`, `grants`, `apart`), in lent memory
 //! between guard words (`memory`, `buffer`), then run once more with its quotes struck. A failure is brought down to
-//! its smallest list (`smallest`). `tally` and `hold_tally` say what a run has seen, `faults` which rules of the other
-//! implementation are broken to see that the comparison notices.
+//! its smallest list (`smallest`). `tally`, `hold_tally` and `order_tally` say what a run has seen, `faults` which
+//! rules of the other implementation are broken to see that the comparison notices.
 
 pub mod apart;
 pub mod buffer;
@@ -20,6 +20,7 @@ pub mod hold_tally;
 pub mod hold_times;
 pub mod memory;
 pub mod nets;
+pub mod order_tally;
 pub mod requests;
 pub mod smallest;
 pub mod station;

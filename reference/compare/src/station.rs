@@ -6,7 +6,7 @@ use crate::grants::{document_request, judged, Choices};
 use crate::hold_times;
 use crate::memory::Memory;
 use crate::tally::Tally;
-use document01::area::{FIRST_CIRCUIT, FIRST_HOLD};
+use document01::area::{CIRCUIT_WORDS, FIRST_CIRCUIT, FIRST_HOLD};
 use document01::judge::require;
 use document01::{area, Entry, Ledger, Reply, Rules};
 use line::Request;
@@ -72,12 +72,34 @@ impl Station {
             let problem = answer.numbers.first().copied().unwrap_or(0);
             tally.searched(request.delay_bound, request.cost_bound, problem);
         }
-        if !answer.path.is_empty() {
-            let links = self.ledger.as_ref().map_or(0, |ledger| ledger.table.links.len());
-            tally.granted(answer.numbers[0], answer.path.len(), links);
-            tally.holds.granted(answer.numbers[1]);
+        if let (0, Some(ledger)) = (answer.code, &self.ledger) {
+            self.granted(ledger, name, call, &answer, tally);
         }
         Ok(answer)
+    }
+
+    /// What the tally keeps of a granted call.
+    fn granted(&self, ledger: &Ledger, name: &'static str, call: &Call, answer: &Answer, tally: &mut Tally) {
+        if !answer.path.is_empty() {
+            tally.granted(answer.numbers[0], answer.path.len(), ledger.table.links.len());
+            tally.holds.granted(answer.numbers[1]);
+        }
+        let held = ledger.entries.iter().map(|entry| entry.number);
+        match call {
+            Call::Admit { circuit, .. } if self.cleared(ledger, *circuit, answer.path.len()) => tally.order.cleared(),
+            Call::List { .. } if !held.clone().eq(answer.numbers.iter().copied()) => tally.order.other_order(),
+            _ => {}
+        }
+        if let Call::Admit { circuit, .. } | Call::Release { circuit } = call {
+            tally.order.booked(name, *circuit, held);
+        }
+    }
+
+    /// Whether a circuit with so many links now has a 0 where another word stood before it was admitted.
+    fn cleared(&self, ledger: &Ledger, circuit: u32, links: usize) -> bool {
+        let place = ledger.by_number().iter().take_while(|entry| entry.number < circuit).count();
+        let at = FIRST_CIRCUIT + CIRCUIT_WORDS * place;
+        self.area.before()[at + 3 + links..at + CIRCUIT_WORDS].iter().any(|&word| word != 0)
     }
 
     fn quote(&mut self, r: &Request, work: Lent, path: Lent, memory: &mut Memory, choices: &mut Choices) -> Checked {
@@ -140,9 +162,8 @@ impl Station {
         require(code == 0, &format!("gave {code}, expected {} numbers", held.len()))?;
         let [count] = memory.answer.array();
         require(count as usize == held.len(), &format!("listed {count}, {} are held", held.len()))?;
-        let mut listed = memory.out.slice()[..held.len()].to_vec();
-        listed.sort_unstable();
-        require(listed == held, &format!("listed {listed:?}, held are {held:?}"))?;
+        let listed = memory.out.slice()[..held.len()].to_vec();
+        require(listed == held, &format!("listed {listed:?}, expected {held:?}"))?;
         require(memory.out.same_from(held.len()), "a word past the listed numbers changed")?;
         Ok(Answer { code, numbers: listed, path: Vec::new() })
     }
@@ -160,17 +181,38 @@ impl Station {
         Ok(Answer { code, numbers: vec![answered], path: Vec::new() })
     }
 
-    /// After an admission or a release: the area is well formed, its bookings are the entries, and n, m, the links, the
-    /// hold times and the words past them are untouched.
+    /// After an admission or a release: n, m, the links, the hold times and the words past them are untouched, the
+    /// circuits' words are those of the entries, and so the area is well formed and its bookings are the entries.
     fn books_agree(&self) -> Result<(), String> {
         let (now, before) = (self.area.slice(), self.area.before());
         let links = 3..FIRST_CIRCUIT;
         let kept =
             now[..2] == before[..2] && now[links.clone()] == before[links] && now[FIRST_HOLD..] == before[FIRST_HOLD..];
         require(kept, "a word that is not a circuit's changed")?;
+        self.ledger.as_ref().map_or(Ok(()), |ledger| self.circuits_agree(ledger))?;
         let entries = self.ledger.as_ref().map(Ledger::bookings);
         let bookings = self.bookings();
         require(bookings == entries, &format!("the area holds {bookings:?}, the ledger {entries:?}"))
+    }
+
+    /// Word for word: equal books are the same words.
+    fn circuits_agree(&self, ledger: &Ledger) -> Result<(), String> {
+        let (held, entries) = (self.area.slice()[2] as usize, ledger.entries.len());
+        require(held == entries, &format!("h is {held}, the ledger has {entries} entries"))?;
+        let (stand, expected) = (self.circuits(), area::circuits(ledger));
+        match (0..expected.len()).find(|&at| stand[at] != expected[at]) {
+            None => Ok(()),
+            Some(at) => {
+                let (place, word) = (at / CIRCUIT_WORDS, at % CIRCUIT_WORDS);
+                Err(format!("word {word} of circuit {place} is {}, expected {}", stand[at], expected[at]))
+            }
+        }
+    }
+
+    /// The first 34 × h words of circuits.
+    pub fn circuits(&self) -> &[u32] {
+        let end = FIRST_CIRCUIT + CIRCUIT_WORDS * self.area.slice()[2] as usize;
+        &self.area.slice()[FIRST_CIRCUIT..end]
     }
 
     pub fn bookings(&self) -> Option<Vec<Entry>> {

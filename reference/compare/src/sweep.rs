@@ -1,7 +1,7 @@
 //! Cases that go through everything once instead of drawing it: each word of two areas and each hold word of 32 nodes
-//! set to each of the numbers at which a range ends, buffers of every length around each limit, the longest path with
-//! the greatest weights, with and without hold times, class tables of every word count and hold lists of every length,
-//! with each number at and past both ends of its range.
+//! set to each of the numbers at which a range ends, circuits out of their order and words past their paths, buffers of
+//! every length around each limit, the longest path with the greatest weights, with and without hold times, class
+//! tables of every word count and hold lists of every length, with each number at and past both ends of its range.
 
 use crate::buffer::{Holds, Lent};
 use crate::cases::{Call, Case};
@@ -9,7 +9,8 @@ use crate::class_tables;
 use crate::damage::{field_at, Change, Damage, Field, EDGES};
 use crate::hold_times;
 use crate::nets::Style;
-use document01::area::{AREA_WORDS, FIRST_HOLD};
+use document01::area::{AREA_WORDS, CIRCUIT_WORDS, FIRST_CIRCUIT, FIRST_HOLD};
+use document01::ledger::PATH_WORDS;
 use document01::table::{MOST_COST_BOUND, MOST_HOLD};
 use line::Request;
 
@@ -18,9 +19,9 @@ const WORDS: usize = 12;
 
 const CASES_AN_AREA: u64 = AREA_WORDS.div_ceil(WORDS) as u64;
 
-/// How many such cases there are: the words of two areas, hold words, lengths, the longest path twice, class tables and
-/// hold lists.
-pub const COUNT: u64 = 2 * CASES_AN_AREA + 6;
+/// How many such cases there are: the words of two areas, the order of circuits in both, hold words, lengths, the
+/// longest path twice, class tables and hold lists.
+pub const COUNT: u64 = 2 * CASES_AN_AREA + 8;
 
 const ENOUGH_WORK: Lent = Lent { words: 16_384, holds: Holds::Kept };
 const ENOUGH_PATH: Lent = Lent { words: 31, holds: Holds::Kept };
@@ -40,6 +41,12 @@ fn admit(circuit: u32) -> Call {
         _ => request(1, 2),
     };
     Call::Admit { circuit, request, work: ENOUGH_WORK, path: ENOUGH_PATH }
+}
+
+/// Admissions of all numbers up to `held`, which is 5 or 64: no factor of 29, so that each comes once. They come in an
+/// order in which circuits are put before and between others.
+fn admissions(held: u32) -> Vec<Call> {
+    (0..held).map(|i| admit(1 + 29 * i % held)).collect()
 }
 
 /// One of the five calls on an area.
@@ -62,7 +69,7 @@ fn with_calls(seed: u64, calls: Vec<Call>) -> Case {
 /// Some words of an area with so many circuits held, each set to each number and increased and decreased by one. The
 /// area held `holds` before Load, which leaves the hold words past n: random words are not in range, ones are.
 fn damaged(seed: u64, first: usize, held: u32, holds: Holds) -> Case {
-    let mut calls: Vec<Call> = (1..=held).map(admit).collect();
+    let mut calls = admissions(held);
     for word in first..AREA_WORDS.min(first + WORDS) {
         let changes = EDGES.map(Change::To).into_iter().chain([Change::Add(1), Change::Add(u32::MAX)]);
         for (which, change) in changes.enumerate() {
@@ -73,10 +80,35 @@ fn damaged(seed: u64, first: usize, held: u32, holds: Holds) -> Case {
     Case { area: Lent { words: AREA_WORDS, holds }, ..with_calls(seed, calls) }
 }
 
+/// With so many circuits held: each two neighbours exchanged, each number given to its neighbour, either way, and each
+/// unused path word and each word past the last circuit set to another word than 0. Where a field stands at fewer
+/// places, the first ones come again.
+fn out_of_order(seed: u64, held: u32) -> Case {
+    let mut calls = admissions(held);
+    let (pairs, places) = (held as usize - 1, held as usize);
+    let paths = PATH_WORDS * places;
+    let past = FIRST_HOLD - FIRST_CIRCUIT - CIRCUIT_WORDS * places;
+    let kinds = [
+        (Field::Exchanged, Change::Exchange, pairs),
+        (Field::Twice, Change::AsBehind, pairs),
+        (Field::Twice, Change::BehindAs, pairs),
+        (Field::UnusedPath, Change::To(1), paths),
+        (Field::UnusedPath, Change::To(u32::MAX), paths),
+        (Field::PastCircuits, Change::To(1), past),
+    ];
+    for (field, change, count) in kinds {
+        for word in 0..count {
+            let damage = Damage { field, word, change };
+            calls.push(Call::Damaged { damage, call: Box::new(call(word)) });
+        }
+    }
+    with_calls(seed, calls)
+}
+
 /// Every length around each limit, for every buffer of every call.
 fn lengths(seed: u64) -> Case {
     let lent = |words| Lent { words, holds: Holds::Random(words as u64) };
-    let mut calls: Vec<Call> = (1..=5).map(admit).collect();
+    let mut calls = admissions(5);
     for words in (0..4).chain(16_376..16_393) {
         calls.push(Call::Quote { request: request(0, 2), work: lent(words), path: ENOUGH_PATH });
         calls.push(Call::Admit { circuit: 200, request: request(0, 2), work: lent(words), path: ENOUGH_PATH });
@@ -146,6 +178,8 @@ pub fn case(number: u64) -> Case {
         0 => damaged(number, first, 5, Holds::Random(number)),
         1 => damaged(number, first, 64, Holds::Ones),
         _ => match COUNT - number {
+            8 => out_of_order(number, 5),
+            7 => out_of_order(number, 64),
             6 => held(number),
             5 => lengths(number),
             4 => longest(number, 0),

@@ -3,6 +3,7 @@
 use crate::class_tables::{ends, COUNTS, RANGES};
 use crate::damage::{Field, FIELDS};
 use crate::hold_tally::HoldTally;
+use crate::order_tally::OrderTally;
 use std::collections::{BTreeMap, BTreeSet};
 
 #[derive(Clone, Default)]
@@ -25,6 +26,7 @@ pub struct Tally {
     /// Quotes and admissions whose network and request came before: they had to get the same path.
     pub repeated: u64,
     pub holds: HoldTally,
+    pub order: OrderTally,
 }
 
 /// Every number that the papers give a call, 0 for a grant.
@@ -90,6 +92,7 @@ impl Tally {
 
     pub fn add(&mut self, other: &Tally) {
         self.holds.add(&other.holds);
+        self.order.add(&other.order);
         self.counts.extend(&other.counts);
         self.row_ends.extend(&other.row_ends);
         self.classes.extend(&other.classes);
@@ -118,6 +121,7 @@ impl Tally {
         missing.extend(self.missing_rows());
         missing.extend(self.missing_grants());
         missing.extend(self.holds.missing());
+        missing.extend(self.order.missing());
         missing
     }
 
@@ -130,11 +134,10 @@ impl Tally {
             }
         }
         for field in FIELDS {
-            let spoils = !matches!(field, Field::Unused | Field::PastHolds);
-            if spoils && !self.damaged.contains_key(&(field, false)) {
+            if field.may_spoil() && !self.damaged.contains_key(&(field, false)) {
                 missing.push(format!("{field:?} damaged never gave 5"));
             }
-            if !self.damaged.contains_key(&(field, true)) {
+            if field.may_stay() && !self.damaged.contains_key(&(field, true)) {
                 missing.push(format!("{field:?} damaged never stayed well formed"));
             }
         }
@@ -201,6 +204,7 @@ impl Tally {
         }
         println!("                  among 256 links: {}  most links of a path: {}", self.full, self.longest);
         self.holds.print();
+        self.order.print();
         println!("  same network and request again, same path: {}", self.repeated);
         println!("  calls replayed with the quotes struck: {}", self.replayed);
     }

@@ -1,6 +1,6 @@
-//! Reading a station area: its ledger where it is well formed.
+//! A station area: its ledger where it is well formed, and the words in which a ledger's entries stand there.
 
-use crate::ledger::{Ledger, MOST_HELD, PATH_WORDS};
+use crate::ledger::{Entry, Ledger, MOST_HELD, PATH_WORDS};
 use crate::rules::{Rule, Rules};
 use crate::table::{Table, LINK_WORDS, MOST_LINKS, MOST_UNITS};
 
@@ -26,8 +26,10 @@ pub fn read(words: &[u32], rules: Rules) -> Option<Ledger> {
     for circuit in words[FIRST_CIRCUIT..].chunks(CIRCUIT_WORDS).take(held) {
         read_circuit(&mut ledger, circuit)?;
     }
+    // A sort that leaves equal numbers as they stand: whether they may be equal is another rule.
+    let rising = ledger.by_number().into_iter().eq(&ledger.entries);
     let over = ledger.free().iter().any(|&free| free < 0);
-    (!over).then_some(ledger)
+    (rising && !over).then_some(ledger)
 }
 
 fn read_circuit(ledger: &mut Ledger, words: &[u32]) -> Option<()> {
@@ -39,10 +41,29 @@ fn read_circuit(ledger: &mut Ledger, words: &[u32]) -> Option<()> {
     if ledger.holds(number) && ledger.rules().hold(Rule::NumbersDiffer) {
         return None;
     }
-    let path = &words[3..3 + count];
+    let (path, unused) = words[3..].split_at(count);
     if !ledger.table.is_path(path) {
+        return None;
+    }
+    if unused.iter().any(|&word| word != 0) && ledger.rules().hold(Rule::UnusedClear) {
         return None;
     }
     ledger.admit(number, units, path);
     Some(())
+}
+
+/// The first 34 × h words of circuits of every area with these h entries. Entries are kept as they came and sorted here;
+/// no word of an area is read or moved.
+pub fn circuits(ledger: &Ledger) -> Vec<u32> {
+    let placed = ledger.rules().hold(Rule::PlacedByNumber);
+    let entries = if placed { ledger.by_number() } else { ledger.entries.iter().collect() };
+    entries.into_iter().flat_map(words_of).collect()
+}
+
+/// A circuit's words: number, units, link count, path, and 0 in each path word that is left.
+fn words_of(entry: &Entry) -> Vec<u32> {
+    let mut words = vec![entry.number, entry.units, entry.path.len() as u32];
+    words.extend(&entry.path);
+    words.resize(CIRCUIT_WORDS, 0);
+    words
 }

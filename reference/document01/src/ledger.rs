@@ -18,6 +18,7 @@ pub struct Entry {
 #[derive(Clone, Debug)]
 pub struct Ledger {
     pub table: Table,
+    /// As they were admitted, or as they stood in the area that was read.
     pub entries: Vec<Entry>,
     rules: Rules,
     /// Entries whose units are still taken though they went: none, unless a rule is broken.
@@ -135,19 +136,28 @@ impl Ledger {
         Ok(())
     }
 
-    /// 14, else the held numbers, in rising order.
+    /// 14, else the held numbers, rising.
     pub fn listing(&self, room: usize) -> Result<Vec<u32>, u32> {
         if room < self.entries.len() {
             return Err(14);
         }
         let mut numbers: Vec<u32> = self.entries.iter().map(|entry| entry.number).collect();
-        numbers.sort_unstable();
+        if self.rules.hold(Rule::ListedByNumber) {
+            numbers.sort_unstable();
+        }
         Ok(numbers)
     }
 
     /// 15, else the link's free units.
     pub fn free_units(&self, link: u32) -> Result<i64, u32> {
         self.free().get(link as usize).copied().ok_or(15)
+    }
+
+    /// The entries by rising number.
+    pub fn by_number(&self) -> Vec<&Entry> {
+        let mut entries: Vec<&Entry> = self.entries.iter().collect();
+        entries.sort_by_key(|entry| entry.number);
+        entries
     }
 
     /// The bookings, in an order that does not depend on when they were made.

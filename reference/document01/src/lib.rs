@@ -5,7 +5,8 @@
 //!   many, by labels taken in order of their kept weight (`labels`); no table d[v, k], no rounds, no trace;
 //! - hold times are added along a path, one at each node between its links (`table`);
 //! - rows are taken off the front of a class table, and each is held to check 8 as a request (`classes`);
-//! - bookings are a ledger's list of entries (`ledger`), and an area is only ever read (`area`);
+//! - bookings are a ledger's list of entries as they were admitted (`ledger`), an area is only ever read, and the order
+//!   of its circuits comes of sorting the entries (`area`);
 //! - which of several best paths is granted is open, so a grant is judged (`judge`) and not foretold.
 //!
 //! `Rules` lets a test break one rule at a time, to see that the comparison notices.

@@ -56,6 +56,12 @@ pub enum Rule {
     HoldScaled,
     /// A hold time is that of the inner node behind a link. Broken: of the node that the link leaves.
     HoldOfInnerNode,
+    /// An admission puts its circuit at the place of its number. Broken: behind the last one.
+    PlacedByNumber,
+    /// In a well-formed area a held circuit's unused path words are 0. Broken: they may hold anything.
+    UnusedClear,
+    /// A listing is by rising number. Broken: in the order of admission.
+    ListedByNumber,
 }
 
 /// Document 01's rules, all of them or all but one.

@@ -101,12 +101,11 @@ fn judge_run(text: &str, all: bool) {
         judge_row(&mut ledger, row, name, printed);
     }
     let (circuits, free): (Vec<&str>, Vec<&str>) = lines.partition(|line| line.starts_with("circuit "));
-    let mut held: Vec<Entry> = circuits
+    let held: Vec<Entry> = circuits
         .iter()
         .map(|line| numbers(&line["circuit ".len()..]))
         .map(|words| Entry { number: words[0], units: words[1], path: words[2..].to_vec() })
         .collect();
-    held.sort();
     assert_eq!(held, ledger.bookings());
     let expected: Vec<String> =
         ledger.free().iter().enumerate().map(|(link, free)| format!("free {link} {free}")).collect();

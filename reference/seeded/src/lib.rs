@@ -30,6 +30,12 @@ impl Random {
         self.range(1, n) == 1
     }
 
+    pub fn shuffle<T>(&mut self, all: &mut [T]) {
+        for i in (1..all.len()).rev() {
+            all.swap(i, self.range(0, i as u32) as usize);
+        }
+    }
+
     pub fn pick<T: Copy>(&mut self, of: &[T]) -> T {
         of[self.range(0, of.len() as u32 - 1) as usize]
     }

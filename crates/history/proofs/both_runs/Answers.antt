@@ -11,5 +11,10 @@ returns-clause-unquoted g c =
 
 pub returns-clause-same : goal.returns-clause-same
 returns-clause-same g c =
-    same_bookings c.args.first.now c.args.second.now c.run-text.new.area c.run-unquoted.new.area
-    c.run-text.ensures.accepted c.run-unquoted.ensures.accepted c.run-text.ensures.area c.run-unquoted.ensures.area
+    (same_bookings c.args.first.now c.args.second.now c.run-text.new.area c.run-unquoted.new.area
+    c.run-text.ensures.accepted c.run-unquoted.ensures.accepted c.run-text.ensures.area c.run-unquoted.ensures.area).0
+
+pub returns-clause-words : goal.returns-clause-words
+returns-clause-words g c =
+    (same_bookings c.args.first.now c.args.second.now c.run-text.new.area c.run-unquoted.new.area
+    c.run-text.ensures.accepted c.run-unquoted.ensures.accepted c.run-text.ensures.area c.run-unquoted.ensures.area).1

@@ -22,6 +22,7 @@ struct Circuit {
 pub struct Network {
     pub n: usize,
     pub links: Vec<Link>,
+    /// By rising number.
     circuits: Vec<Circuit>,
 }
 
@@ -32,19 +33,25 @@ impl Network {
         Network { n: n as usize, links: words.chunks_exact(5).map(link).collect(), circuits: Vec::new() }
     }
 
-    /// Adds a circuit; its path has `units` free.
+    /// The place of the circuit with this number, or the place where it would stand.
+    fn place(&self, number: u32) -> Result<usize, usize> {
+        self.circuits.binary_search_by_key(&number, |c| c.number)
+    }
+
+    /// Adds a circuit, whose number is not held, at its place; its path has `units` free.
     pub fn hold(&mut self, number: u32, units: u32, path: &[u32]) {
         let mut circuit = Circuit { number, units, links: path.len(), path: [0; PATH] };
         circuit.path[..path.len()].copy_from_slice(path);
         for &i in path {
             self.links[i as usize].free -= units;
         }
-        self.circuits.push(circuit);
+        let place = self.place(number).unwrap_or_else(|place| place);
+        self.circuits.insert(place, circuit);
     }
 
     /// 11 where the number is held, 12 where no more circuits may be.
     pub fn check_room(&self, number: u32) -> Result<(), u32> {
-        if self.circuits.iter().any(|c| c.number == number) {
+        if self.place(number).is_ok() {
             return Err(11);
         }
         if self.circuits.len() >= CIRCUITS {
@@ -55,8 +62,8 @@ impl Network {
 
     /// Releases a circuit, or gives 13.
     pub fn release(&mut self, number: u32) -> Result<(), u32> {
-        let place = self.circuits.iter().position(|c| c.number == number).ok_or(13u32)?;
-        let circuit = self.circuits.swap_remove(place);
+        let place = self.place(number).map_err(|_| 13u32)?;
+        let circuit = self.circuits.remove(place);
         for &i in &circuit.path[..circuit.links] {
             self.links[i as usize].free += circuit.units;
         }

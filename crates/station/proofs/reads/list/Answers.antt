@@ -1,7 +1,8 @@
 -- The checks refuse as the definition says; past them the numbers of the held circuits stand in the buffer.
 use Rattle.std.proofs.Common.{arith, ◌++◌, drop, ap, ◌∙◌}
 use Rattle.area.specs.Station.{held_in}
-use Rattle.area.specs.Held.{numbers_from}
+use Rattle.network.specs.Lists.{from}
+use Rattle.area.specs.Held.{number_at}
 use Rattle.area.proofs.Refusals.{passed_on}
 use Rattle.area.proofs.ReadCases.{list_unfit, list_short, list_all}
 use Rattle.station.proofs.reads.list.Goals as goal
@@ -23,7 +24,7 @@ returns c =
     let count = c.places-places.ensures.count ∙ ap held_in c.in_ok-read.ensures.area in
     let stored =
     c.write_numbers.ensures
-    ∙ ap (λ w. numbers_from w 0 c.places-places.result.count ++ drop c.places-places.result.count c.args.numbers.now)
+    ∙ ap (λ w. from (number_at w) 0 c.places-places.result.count ++ drop c.places-places.result.count c.args.numbers.now)
     (c.places-places.ensures.area ∙ c.in_ok-read.ensures.area) in
     let k = list_all c.args.area.now c.args.numbers.now c.in_ok-read.ensures.formed _ count (omega arith) c.write_numbers.new.numbers stored in
     record { answer = k.0; numbers = k.1.0; means = k.1.1 }

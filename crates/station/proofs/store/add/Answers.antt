@@ -1,10 +1,8 @@
--- The stores, one after the other, are those of an admission.
-use Rattle.std.proofs.Common.{arith, ℕ, ◌+◌, ◌-◌, length}
+-- The gap, the circuit's words in it and the count are the stores of an admission.
+use Rattle.std.proofs.Common.{arith}
 use Rattle.area.proofs.Stores.{added_words}
 use Rattle.station.proofs.store.add.Goals as goal
 
 pub returns : goal.returns
 returns c =
-    let at : ℕ = c.place-at.result in
-    added_words c.args.area.now (record { number = c.args.number; units = c.args.units; path = c.args.path.now }) c.copy_from_slice.new.self at
-    (at + 3 + length c.args.path.now - (at + 3)) c.place-at.ensures c.copy_from_slice.ensures.after (omega arith) (omega arith)
+    rw (c.write_circuit.ensures, c.open.ensures) (added_words _ c.args.j _ _ _ c.place-at.ensures c.place.ensures (omega arith))

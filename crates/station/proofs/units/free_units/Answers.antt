@@ -1,5 +1,5 @@
--- Before the first circuit every link has its capacity free; a circuit that fits takes its units; one that does not, or whose
--- units are not free, decides; and after the last what is free is what is left.
+-- Before the first circuit every link has its capacity free; a circuit that fits takes its units; words that do not fit, a path
+-- that is none and units that are not free decide; and after the last what is free is what is left.
 use Rattle.std.proofs.Common.{arith, rules, tests, ◌≡◌, refl, sym, ◌∙◌}
 use lib.ListN.{get_or-eq_default}
 use Rattle.network.specs.Limits.{most_links}
@@ -7,7 +7,7 @@ use Rattle.network.specs.Words.{field}
 use Rattle.network.proofs.Past.{past_links}
 use Rattle.network.proofs.Tests.{by_lt}
 use Rattle.area.proofs.Arrays.{made_at}
-use Rattle.area.proofs.CircuitUnits.{passed_none, place_out, passed_more, units_out, passed_all, passed_left}
+use Rattle.area.proofs.CircuitUnits.{passed_none, words_out, take_out, take_more, passed_all, passed_left}
 use Rattle.station.proofs.units.free_units.Goals as goal
 
 pub loop-j-init : goal.loop-j-init
@@ -22,16 +22,16 @@ loop-j-init c =
 pub returns-in_err-circuit-clause-fit : goal.returns-in_err-circuit-clause-fit
 returns-in_err-circuit-clause-fit c =
     rw c.from_residual.ensures
-    (place_out _ _ c.args.places.now.area.now c.loop-j.j c.args.places.now.count (omega arith) c.in_err-circuit.ensures.fits)
+    (words_out _ _ c.args.places.now.area.now c.loop-j.j c.args.places.now.count (omega arith) c.in_err-circuit.ensures.fits)
 
 pub returns-then-not-take-clause-fit : goal.returns-then-not-take-clause-fit
 returns-then-not-take-clause-fit c =
-    units_out _ _ c.args.places.now.area.now c.loop-j.j c.loop-j.free c.loop-j.invariant c.in_ok-circuit.ensures.fits _ c.in_ok-circuit.ensures.is
+    take_out _ _ c.args.places.now.area.now c.loop-j.j c.loop-j.free c.loop-j.invariant c.in_ok-circuit.ensures.fits _ c.in_ok-circuit.ensures.is
     c.args.places.now.count (omega arith) c.if-not-take.ensures.fits
 
 pub loop-j-preserved : goal.loop-j-preserved
 loop-j-preserved c =
-    passed_more _ _ c.args.places.now.area.now c.loop-j.j c.loop-j.free c.loop-j.invariant c.in_ok-circuit.ensures.fits _ c.in_ok-circuit.ensures.is
+    take_more _ _ c.args.places.now.area.now c.loop-j.j c.loop-j.free c.loop-j.invariant c.in_ok-circuit.ensures.fits _ c.in_ok-circuit.ensures.is
     c.take.new.free c.if-not-take.ensures.fits (c.if-not-take.ensures.words refl)
 
 pub returns-clause-fit : goal.returns-clause-fit
