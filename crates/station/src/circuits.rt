@@ -7,8 +7,8 @@ ghost use Rattle.area.specs.Formed.{numbers_fit, unused_clear};
 use crate::layout;
 use network::limits::{LEAST_PATH_LINKS, LEAST_UNITS, MOST_PATH_LINKS, MOST_UNITS};
 
-// Whether each path word that the path does not use is 0, in the words of a circuit. All are put together and asked once, so
-// that a path's length costs no wrong guess of the processor.
+// Whether each path word that the path does not use is 0, in the words of a circuit; `Places::get` hands it those of one place.
+// All are put together and asked once, so that a path's length costs no wrong guess of the processor.
 pub fn unused_clear(words: &[u32]) -> bool
     requires { length words.now ≡ circuit_words }
     ensures { result ≡ unused_clear words.now }

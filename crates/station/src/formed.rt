@@ -94,7 +94,7 @@ impl<'a> Station<'a> {
         self.places().of(number)
     }
 
-    // Whether the circuit at a number's place has this number.
+    // Whether the circuit at a number's place has this number. Admission and release hand it the place that `place_of` gave.
     pub fn holds(&self, number: u32, j: usize) -> bool
         requires { j ≡ place_of self.now.area.now number }
         ensures { result ≡ holds (station self.now.area.now).held number }
