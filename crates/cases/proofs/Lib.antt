@@ -5,4 +5,5 @@ pub mod Areas
 pub mod FreeLines
 pub mod HoldTimes
 pub mod SteadyList
+pub mod PaperLines
 pub mod ClassCases

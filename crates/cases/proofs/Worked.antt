@@ -70,7 +70,7 @@ replies =
     ∙ replies_by_links
 
 -- a computed reply is what the call means
-replied_holds : (w : List ℕ) (q : Asked) → Holds w q (replied w q)
+pub replied_holds : (w : List ℕ) (q : Asked) → Holds w q (replied w q)
 replied_holds w (Quote r) = quote_means w work_words path_words r
 replied_holds w (Admission c r) = admission_means w work_words path_words r c
 

@@ -4,6 +4,7 @@ pub mod Problems
 pub mod FreeLines
 pub mod LinkTables
 pub mod Searches
+pub mod Lines
 pub mod HoldTimes
 pub mod HoldLoads
 pub mod HoldGrants

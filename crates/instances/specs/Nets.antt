@@ -1,13 +1,14 @@
--- What the instances are about: document 01's net A and net B and the net of free lines as networks, and requests on net A
--- beside those that `cases` names.
+-- What the instances are about: document 01's net A and net B, the net of free lines and net P as networks, and requests on net
+-- A beside those that `cases` names.
 -- Assumes nothing.
-use Rattle.std.specs.Prelude.{ℕ, true, Bool, List, [], ◌∷◌, replicate}
+use Rattle.std.specs.Prelude.{ℕ, true, false, Bool, List, [], ◌∷◌, replicate}
 use Rattle.network.specs.Lists.{from}
 use Rattle.network.specs.Net.{Net}
 use Rattle.network.specs.Words.{field, net_of}
 use Rattle.network.specs.declared.Request.{Request}
 use Rattle.cases.specs.Document01.{links_a, links_b, asks}
 use Rattle.cases.specs.FreeLines.{links_f}
+use Rattle.cases.specs.PaperLines.{links_p}
 
 -- ---- the networks
 -- word j of each of m links, and a network whose delays and costs are those of the words
@@ -36,6 +37,11 @@ shut_a = net_of_words 4 4 links_a []
 abbrev pub net_f : Net
 unfolding net_of
 net_f = net_of_words 4 6 links_f (replicate 6 true)
+
+-- net P: link 6 has no unit free
+abbrev pub net_p : Net
+unfolding net_of
+net_p = net_of_words 4 8 links_p (true ∷ true ∷ true ∷ true ∷ true ∷ true ∷ false ∷ true ∷ [])
 
 -- one link that costs nothing, with a delay of 3
 abbrev pub slow : Net

@@ -51,14 +51,15 @@ module _ {A : Type 0} (f : ℕ → A → A) where
       (λ e. subst (λ (m : ℕ). P (f m (iter f n a))) e (brings (iter f n a) (iter_keeps Q n a (λ i b l. before i b (omega arith)) h)))
       (λ ne. keeps n (iter f n a) (iter_brings Q P j n (omega arith) (λ i b l. before i b (omega arith)) brings keeps a h))
 
-  -- two runs that each turn keeps related
-  pub iter_both : (R : A → A → Type 0) (n : ℕ) → ((i : ℕ) (a b : A) → i < n → R a b → R (f i a) (f i b)) → (a b : A) → R a b → R (iter f n a) (iter f n b)
-  unfolding iter
-  iter_both R zero step a b h = h
-  iter_both R (suc n) step a b h = step n _ _ (omega arith) (iter_both R n (λ i a b l. step i a b (omega arith)) a b h)
-
 -- the three for a function's `using`
 pub ruleset counted = (iter_none, iter_more, iter_done)
+
+-- two loops that each turn keeps related
+pub iter_both : {A B : Type 0} (f : ℕ → A → A) (h : ℕ → B → B) (R : A → B → Type 0) (n : ℕ)
+    → ((i : ℕ) (a : A) (b : B) → i < n → R a b → R (f i a) (h i b)) → (a : A) (b : B) → R a b → R (iter f n a) (iter h n b)
+unfolding iter
+iter_both f h R zero step a b r = r
+iter_both f h R (suc n) step a b r = step n _ _ (omega arith) (iter_both f h R n (λ i a b l. step i a b (omega arith)) a b r)
 
 -- turns that agree below n make the same loop of n turns
 pub iter_same : {A : Type 0} (f h : ℕ → A → A) (n : ℕ) → ((i : ℕ) (a : A) → i < n → f i a ≡ h i a) → (a : A) → iter f n a ≡ iter h n a

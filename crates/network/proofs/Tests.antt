@@ -11,6 +11,11 @@ pub by_test : {A : Type 0} (t : Bool) (a b : A) (P : A → Type 0) → (t ≡ tr
 by_test true a b P y n = y refl
 by_test false a b P y n = n refl
 
+-- two values that go by the same test are related where their arms are
+pub both_cond : {A B : Type 0} (R : A → B → Type 0) (t : Bool) {a b : A} {c d : B} → (t ≡ true → R a c) → (t ≡ false → R b d) → R (cond t a b) (cond t c d)
+both_cond R true taken left = taken refl
+both_cond R false taken left = left refl
+
 pub by_bool : (t : Bool) {C : Type 0} → (t ≡ true → C) → (t ≡ false → C) → C
 by_bool true y n = y refl
 by_bool false y n = n refl

@@ -10,9 +10,9 @@ ghost use Rattle.search.specs.Result.{search_answer_of, path_after};
 ghost use Rattle.search.specs.ebf.Passed.{passed};
 ghost use Rattle.route.specs.Described.{described};
 
+use crate::ebf::ebf;
 use crate::net::Network;
-use crate::rounds::rounds;
-use crate::table::{cell, initialise};
+use crate::table::cell;
 use crate::trace::trace;
 use network::limits::WORK_WORDS;
 use network::{Grant, NoRoute, Reduction};
@@ -46,7 +46,6 @@ fn found(
 
 // Problem `which` over the edges of the network. After lines 20 to 24 it has a solution where d[t, x] is within the bound,
 // since d[t, x] covers every scaled weight up to x. Work memory is open after.
-#[tactic(auto, using(search::proofs::ebf::Outcomes::table_bounded))]
 pub fn attempt(
     net: &Network<'_>,
     p: &Reduced<'_>,
@@ -62,8 +61,7 @@ pub fn attempt(
     ensures answer { result ≡ search_answer_of (described net.now) (outcome_of which (solve (net_in p.now) (problem_of p.now) s t)) }
     ensures path { path.new ≡ path_after (outcome_of which (solve (net_in p.now) (problem_of p.now) s t)) path.old }
 {
-    initialise(p, work, s);
-    rounds(p, work);
+    ebf(p, work, s);
     let at = cell(p, t, p.x);
     if p.bound < work[2 * at] {
         return Err(NoRoute::NoSolution);

@@ -2,7 +2,7 @@
 // Bellman-Ford search, problem one and else problem two, as in section 2.3 of the paper.
 //
 // A search goes through the modules in this order: `distance`, `problems`, and for each problem `weights`, then `attempt`
-// with `table` (lines 1 to 5), `rounds` (lines 21 to 24) with `relax` (lines 6 to 10), `trace` with `notes`, and `path`.
+// with `ebf` (lines 20 to 24) over `table` (lines 1 to 5) and `relax` (lines 6 to 10), `trace` with `notes`, and `path`.
 //
 // Only `search` can be called from outside. What the functions below it require follows from what `search` requires,
 // and each caller shows it; what `search` requires, the upper crate's calls have checked before they search.
@@ -14,12 +14,12 @@ ghost use Rattle.route.specs.Described.{described};
 
 mod attempt;
 mod distance;
+mod ebf;
 mod net;
 mod notes;
 mod path;
 mod problems;
 mod relax;
-mod rounds;
 mod table;
 mod trace;
 mod weights;

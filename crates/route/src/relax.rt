@@ -50,8 +50,8 @@ fn due(stored: bool, step: usize, again: bool) -> bool
     again
 }
 
-// Lines 6 to 10: link `i` is tried from its tail at `k`. Gives false only where no other round is due for it, and none was
-// before.
+// Lines 6 and 7, and by `improve` lines 8 to 10: link `i` is tried from its tail at `k`. Gives false only where no other round
+// is due for it, and none was before.
 #[tactic(auto, using(search::proofs::ebf::Steps::hop_over, search::proofs::ebf::Steps::hop_within))]
 fn relax(p: &Reduced<'_>, work: &mut [u32; WORK_WORDS], k: usize, i: usize, again: bool) -> bool
     requires bounded { Bounded p.now work.old }

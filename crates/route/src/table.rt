@@ -1,12 +1,15 @@
 // The table d[v, k] in work memory: cell v * (x + 1) + k has its number at the word twice its place, and the link
 // by which v was reached at the next word.
-ghost use Rattle.std.specs.Prelude.{◌≡◌, ◌+◌, ◌≤◌, ◌<◌};
+ghost use Rattle.std.specs.Prelude.{◌≡◌, ◌≤◌, ◌<◌};
 ghost use Rattle.network.specs.Limits.{most_nodes};
-ghost use Rattle.search.specs.ebf.Table.{cell, cells, filled, initialised, most_cells};
+ghost use Rattle.search.specs.ebf.Table.{cell, cells, filled, infinity, initialised, most_cells, started};
 ghost use Rattle.search.specs.Solver.{net_in, problem_of};
 
-use network::limits::WORK_WORDS;
+use network::limits::{MOST_LINKS, WORK_WORDS};
 use search::Reduced;
+
+// What stands for NIL: the links have lesser numbers.
+const NO_LINK: u32 = MOST_LINKS as u32;
 
 // The cell of d[v, k]. The callers have v in its range and k at most x.
 #[tactic(auto, unfolding(search::specs::ebf::Table::cell))]
@@ -28,26 +31,38 @@ pub fn cells(p: &Reduced<'_>) -> usize
     p.nodes * (p.x + 1)
 }
 
-// The `n` cells from `a` on get the number `d`: every second word, so std's `fill` does not serve.
-#[tactic(auto, unfolding(search::specs::ebf::Table::filled), using(network::proofs::Loops::counted))]
-fn fill(work: &mut [u32; WORK_WORDS], a: usize, n: usize, d: u32)
-    requires { a + n ≤ most_cells }
-    ensures { work.new ≡ filled a n d work.old }
+// Lines 1 to 3. The cells are those of each node and each i from 0 to x.
+#[tactic(auto, unfolding(search::specs::ebf::Table::filled, search::specs::Solver::net_in, search::specs::Solver::problem_of), using(network::proofs::Loops::counted))]
+fn clear(p: &Reduced<'_>, work: &mut [u32; WORK_WORDS])
+    ensures { work.new ≡ filled (cells p.now.nodes p.now.x) (infinity (problem_of p.now)) work.old }
 {
-    for j in 0..n {
-        work[2 * (a + j)] = d;
+    let far = p.bound + 1;
+    for c in 0..cells(p) {
+        work[2 * c] = far;
+        work[2 * c + 1] = NO_LINK;
     }
 }
 
-// Lines 1 to 5, with bound + 1 for ∞. No link word is cleared for line 3: a link is read only where the number
-// is within the bound, and was written with it. `attempt` calls it. It stands by itself in the machine code, which leaves the
-// rounds behind it more registers (docs/performance.md).
+// Lines 4 and 5. The cells of a node stand in the order of i.
+#[tactic(auto, unfolding(search::specs::Solver::problem_of), using(network::proofs::Loops::counted, search::proofs::ebf::Rows::row_fits_lem, search::proofs::ebf::Rows::row_cell))]
+fn start(p: &Reduced<'_>, work: &mut [u32; WORK_WORDS], s: usize)
+    requires s_lt_most_nodes { s < most_nodes }
+    ensures { work.new ≡ started (problem_of p.now) s work.old }
+{
+    let first = cell(p, s, 0);
+    for i in 0..p.x + 1 {
+        work[2 * (first + i)] = 0;
+    }
+}
+
+// Lines 1 to 5, with bound + 1 for ∞ and NO_LINK for NIL. It stands by itself in the machine code, which leaves the rounds behind it
+// more registers (docs/performance.md).
 #[inline(never)]
-#[tactic(auto, unfolding(search::specs::ebf::Table::initialised, search::specs::Solver::net_in, search::specs::Solver::problem_of), using(search::proofs::ebf::Rows::row_fits_lem))]
+#[tactic(auto, unfolding(search::specs::ebf::Table::initialised, search::specs::Solver::net_in, search::specs::Solver::problem_of))]
 pub fn initialise(p: &Reduced<'_>, work: &mut [u32; WORK_WORDS], s: usize)
     requires s_lt_most_nodes { s < most_nodes }
     ensures { work.new ≡ initialised (net_in p.now) (problem_of p.now) s work.old }
 {
-    fill(work, 0, cells(p), p.bound + 1);
-    fill(work, cell(p, s, 0), p.x + 1, 0);
+    clear(p, work);
+    start(p, work, s);
 }

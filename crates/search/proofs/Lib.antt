@@ -1,3 +1,4 @@
+pub mod Paper
 pub mod ebf
 pub mod Distance
 mod Heuristic

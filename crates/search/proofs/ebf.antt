@@ -2,6 +2,7 @@ pub mod Good
 pub mod Decided
 pub mod Cells
 pub mod Relaxed
+pub mod Initialised
 pub mod Sound
 pub mod Complete
 pub mod Trace
@@ -11,5 +12,7 @@ pub mod Settled
 pub mod Rows
 pub mod Steps
 pub mod Turn
+pub mod Entries
+pub mod AsPaper
 pub mod Outcomes
 pub mod Alike

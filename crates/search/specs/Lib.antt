@@ -8,4 +8,5 @@ pub mod Roles
 pub mod Forward
 pub mod Hops
 pub mod Solver
+pub mod Paper
 pub mod ebf

@@ -7,3 +7,4 @@ pub mod Settled
 pub mod Relaxing
 pub mod OnTable
 pub mod Passed
+pub mod AsPaper

@@ -1,10 +1,11 @@
-//! The deliberate faults: each is a rule of document 01 that the other implementation then breaks. With any one of them
-//! the comparison must report a failure; tests/against-reference switches on each in turn and sees that it does.
+//! The deliberate faults: each is a rule of document 01 or of the paper's lines that the other implementation then
+//! breaks. With any one of them the comparison must report a failure; tests/against-reference switches on each in turn
+//! and sees that it does.
 
 use document01::Rule;
 
 /// The name by which `compare --fault NAME` switches it on, and the rule that is broken.
-pub const FAULTS: [(&str, Rule); 30] = [
+pub const FAULTS: [(&str, Rule); 38] = [
     ("scaled-down", Rule::RoundUp),
     ("total-scaled-once", Rule::ScaleEachLink),
     ("problem-two-first", Rule::ProblemOneFirst),
@@ -35,4 +36,12 @@ pub const FAULTS: [(&str, Rule); 30] = [
     ("placed-behind-the-last", Rule::PlacedByNumber),
     ("unused-words-well-formed", Rule::UnusedClear),
     ("listed-as-admitted", Rule::ListedByNumber),
+    ("source-at-0-alone", Rule::SourceAtEachK),
+    ("last-column-left-out", Rule::LastColumn),
+    ("relaxed-where-equal", Rule::LessAlone),
+    ("node-kept-for-the-link", Rule::LinkKept),
+    ("a-round-fewer", Rule::EveryRound),
+    ("k-falling", Rule::KRises),
+    ("links-falling", Rule::LinksRise),
+    ("no-nil-at-the-source", Rule::NilAtSource),
 ];

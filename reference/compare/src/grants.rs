@@ -123,7 +123,7 @@ pub fn judged(
 
 /// Where a search is refused with 10, no listed path is overqualified.
 fn no_grant_is_due(ledger: &Ledger, number: u32, r: &Request) -> Result<(), String> {
-    if number != 10 || !ledger.rules().hold_beside(Rule::Overqualified) {
+    if number != 10 || !ledger.rules().hold_beside(&[Rule::Overqualified]) {
         return Ok(());
     }
     let due = ledger.search(&document_request(r)).is_some_and(|search| search.has_overqualified());

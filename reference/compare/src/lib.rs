@@ -3,8 +3,9 @@
 //! A case is a link table with hold times and a list of calls, both from one seed (`cases`, `nets`, `hold_times`,
 //! `requests`, `class_tables`, `files`, `damage`), or one of those that go through everything (`sweep`). It is run on
 //! the archive and every call is held against the ledger (`history`, `station`, `grants`, `apart`), in lent memory
-//! between guard words (`memory`, `buffer`), then run once more with its quotes struck. A failure is brought down to
-//! its smallest list (`smallest`). `tally`, `hold_tally` and `order_tally` say what a run has seen, `faults` which
+//! between guard words (`memory`, `buffer`), and the table that a search leaves in work memory is held against the
+//! paper's lines (`tables`); then it is run once more with its quotes struck. A failure is brought down to its smallest
+//! list (`smallest`). `tally`, `hold_tally`, `order_tally` and `table_tally` say what a run has seen, `faults` which
 //! rules of the other implementation are broken to see that the comparison notices.
 
 pub mod apart;
@@ -25,4 +26,6 @@ pub mod requests;
 pub mod smallest;
 pub mod station;
 pub mod sweep;
+pub mod table_tally;
+pub mod tables;
 pub mod tally;

@@ -3,6 +3,7 @@
 
 use crate::buffer::{Buffer, Holds, Lent};
 use document01::judge::require;
+use document01::ledger::WORK_WORDS;
 
 #[derive(Default)]
 pub struct Memory {
@@ -11,6 +12,8 @@ pub struct Memory {
     pub answer: Buffer,
     pub read: Buffer,
     pub hold_times: Buffer,
+    /// The x of the table that an earlier call left in work memory, if it stands there.
+    pub table: Option<u64>,
     /// Turns the contents of every buffer into others of the same length.
     pub other: u64,
 }
@@ -27,7 +30,11 @@ impl Memory {
 
     pub fn lend_work(&mut self, lent: Lent) {
         let lent = self.turned(lent);
+        if !matches!(lent.holds, Holds::Kept) || lent.words < WORK_WORDS {
+            self.table = None;
+        }
         self.work.lend(lent);
+        self.work.mark();
     }
 
     /// A buffer that a call writes into, and an answer array of so many words.

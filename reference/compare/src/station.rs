@@ -5,6 +5,7 @@ use crate::cases::Call;
 use crate::grants::{document_request, judged, Choices};
 use crate::hold_times;
 use crate::memory::Memory;
+use crate::tables;
 use crate::tally::Tally;
 use document01::area::{CIRCUIT_WORDS, FIRST_CIRCUIT, FIRST_HOLD};
 use document01::judge::require;
@@ -51,9 +52,11 @@ impl Station {
     pub fn call(&mut self, call: &Call, memory: &mut Memory, choices: &mut Choices, tally: &mut Tally) -> Checked {
         self.area.mark();
         let (name, answer) = match call {
-            Call::Quote { request, work, path } => ("quote", self.quote(request, *work, *path, memory, choices)),
+            Call::Quote { request, work, path } => {
+                ("quote", self.quote(request, [*work, *path], memory, choices, tally))
+            }
             Call::Admit { circuit, request, work, path } => {
-                ("admit", self.admit(*circuit, request, *work, *path, memory, choices))
+                ("admit", self.admit(*circuit, request, [*work, *path], memory, choices, tally))
             }
             Call::Release { circuit } => ("release", self.release(*circuit)),
             Call::List { numbers } => ("list", self.list(*numbers, memory)),
@@ -102,7 +105,14 @@ impl Station {
         self.area.before()[at + 3 + links..at + CIRCUIT_WORDS].iter().any(|&word| word != 0)
     }
 
-    fn quote(&mut self, r: &Request, work: Lent, path: Lent, memory: &mut Memory, choices: &mut Choices) -> Checked {
+    fn quote(
+        &mut self,
+        r: &Request,
+        [work, path]: [Lent; 2],
+        memory: &mut Memory,
+        choices: &mut Choices,
+        tally: &mut Tally,
+    ) -> Checked {
         memory.lend_work(work);
         memory.lend_out(path, 4);
         let (lent_work, lent_path) = (memory.work.slice_mut(), memory.out.slice_mut());
@@ -111,17 +121,19 @@ impl Station {
             return refused(code, 5, memory);
         };
         let reply = ledger.quote(work.words, path.words, &document_request(r));
-        judged(ledger, code, reply, r, memory, choices)
+        let answer = judged(ledger, code, reply, r, memory, choices)?;
+        tables::agree(ledger, r, &answer, memory, &mut tally.tables)?;
+        Ok(answer)
     }
 
     fn admit(
         &mut self,
         circuit: u32,
         r: &Request,
-        work: Lent,
-        path: Lent,
+        [work, path]: [Lent; 2],
         memory: &mut Memory,
         choices: &mut Choices,
+        tally: &mut Tally,
     ) -> Checked {
         memory.lend_work(work);
         memory.lend_out(path, 4);
@@ -132,6 +144,7 @@ impl Station {
         };
         let reply = ledger.admission(work.words, path.words, circuit, &document_request(r));
         let answer = judged(ledger, code, reply, r, memory, choices)?;
+        tables::agree(ledger, r, &answer, memory, &mut tally.tables)?;
         if let Reply::Granted { .. } = reply {
             ledger.admit(circuit, r.units, &answer.path);
             self.books_agree()?;

@@ -1,7 +1,8 @@
 //! Cases that go through everything once instead of drawing it: each word of two areas and each hold word of 32 nodes
 //! set to each of the numbers at which a range ends, circuits out of their order and words past their paths, buffers of
 //! every length around each limit, the longest path with the greatest weights, with and without hold times, class
-//! tables of every word count and hold lists of every length, with each number at and past both ends of its range.
+//! tables of every word count and hold lists of every length, with each number at and past both ends of its range, and
+//! a search that takes all rounds.
 
 use crate::buffer::{Holds, Lent};
 use crate::cases::{Call, Case};
@@ -20,8 +21,8 @@ const WORDS: usize = 12;
 const CASES_AN_AREA: u64 = AREA_WORDS.div_ceil(WORDS) as u64;
 
 /// How many such cases there are: the words of two areas, the order of circuits in both, hold words, lengths, the
-/// longest path twice, class tables and hold lists.
-pub const COUNT: u64 = 2 * CASES_AN_AREA + 8;
+/// longest path twice, class tables, hold lists and all rounds.
+pub const COUNT: u64 = 2 * CASES_AN_AREA + 9;
 
 const ENOUGH_WORK: Lent = Lent { words: 16_384, holds: Holds::Kept };
 const ENOUGH_PATH: Lent = Lent { words: 31, holds: Holds::Kept };
@@ -171,6 +172,17 @@ fn longest(seed: u64, hold: u32) -> Case {
     line(seed, hold, calls)
 }
 
+/// 32 nodes in a line whose links stand in the table from the last to the first and cost nothing: each round reaches one
+/// node more.
+fn all_rounds(seed: u64) -> Case {
+    let words = (0..31).rev().flat_map(|i| [i, i + 1, 1, 0, 1]).collect();
+    let quote = |delay_bound| {
+        let request = Request { s: 0, t: 31, units: 1, delay_bound, cost_bound: 1, coefficient: 1 };
+        Call::Quote { request, work: Lent { words: 16_384, holds: Holds::Random(seed) }, path: ENOUGH_PATH }
+    };
+    Case { n: 32, words, hold_times: vec![0; 32], ..with_calls(seed, (30..62).map(quote).collect()) }
+}
+
 /// The case of a number below `COUNT`.
 pub fn case(number: u64) -> Case {
     let first = WORDS * (number % CASES_AN_AREA) as usize;
@@ -178,14 +190,15 @@ pub fn case(number: u64) -> Case {
         0 => damaged(number, first, 5, Holds::Random(number)),
         1 => damaged(number, first, 64, Holds::Ones),
         _ => match COUNT - number {
-            8 => out_of_order(number, 5),
-            7 => out_of_order(number, 64),
-            6 => held(number),
-            5 => lengths(number),
-            4 => longest(number, 0),
-            3 => longest(number, MOST_HOLD),
-            2 => with_calls(number, class_tables::all()),
-            _ => with_calls(number, hold_times::all()),
+            9 => out_of_order(number, 5),
+            8 => out_of_order(number, 64),
+            7 => held(number),
+            6 => lengths(number),
+            5 => longest(number, 0),
+            4 => longest(number, MOST_HOLD),
+            3 => with_calls(number, class_tables::all()),
+            2 => with_calls(number, hold_times::all()),
+            _ => all_rounds(number),
         },
     }
 }

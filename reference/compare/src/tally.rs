@@ -4,6 +4,7 @@ use crate::class_tables::{ends, COUNTS, RANGES};
 use crate::damage::{Field, FIELDS};
 use crate::hold_tally::HoldTally;
 use crate::order_tally::OrderTally;
+use crate::table_tally::TableTally;
 use std::collections::{BTreeMap, BTreeSet};
 
 #[derive(Clone, Default)]
@@ -27,6 +28,7 @@ pub struct Tally {
     pub repeated: u64,
     pub holds: HoldTally,
     pub order: OrderTally,
+    pub tables: TableTally,
 }
 
 /// Every number that the papers give a call, 0 for a grant.
@@ -93,6 +95,7 @@ impl Tally {
     pub fn add(&mut self, other: &Tally) {
         self.holds.add(&other.holds);
         self.order.add(&other.order);
+        self.tables.add(&other.tables);
         self.counts.extend(&other.counts);
         self.row_ends.extend(&other.row_ends);
         self.classes.extend(&other.classes);
@@ -122,6 +125,7 @@ impl Tally {
         missing.extend(self.missing_grants());
         missing.extend(self.holds.missing());
         missing.extend(self.order.missing());
+        missing.extend(self.tables.missing());
         missing
     }
 
@@ -205,6 +209,7 @@ impl Tally {
         println!("                  among 256 links: {}  most links of a path: {}", self.full, self.longest);
         self.holds.print();
         self.order.print();
+        self.tables.print();
         println!("  same network and request again, same path: {}", self.repeated);
         println!("  calls replayed with the quotes struck: {}", self.replayed);
     }

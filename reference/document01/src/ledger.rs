@@ -67,6 +67,11 @@ impl Ledger {
         Search::new(&self.table, self.usable(request.units), *request, self.rules)
     }
 
+    /// The same where no list of paths is wanted.
+    pub fn unlisted(&self, request: &Request) -> Option<Search<'_>> {
+        Search::unlisted(&self.table, self.usable(request.units), *request, self.rules)
+    }
+
     /// 9 and 10, else a grant.
     fn searched(&self, request: &Request) -> Reply {
         match self.search(request).map_or(Found::NoPath, |search| search.found()) {

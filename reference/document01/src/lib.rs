@@ -3,6 +3,7 @@
 //!
 //! - the reduced problems are solved by listing every path and looking at all of them (`paths`), and where there are too
 //!   many, by labels taken in order of their kept weight (`labels`); no table d[v, k], no rounds, no trace;
+//! - the paper's own table and rounds stand apart, read from the paper (`lines`), and no answer comes of them;
 //! - hold times are added along a path, one at each node between its links (`table`);
 //! - rows are taken off the front of a class table, and each is held to check 8 as a request (`classes`);
 //! - bookings are a ledger's list of entries as they were admitted (`ledger`), an area is only ever read, and the order
@@ -16,6 +17,7 @@ pub mod classes;
 pub mod judge;
 pub mod labels;
 pub mod ledger;
+pub mod lines;
 pub mod link_file;
 pub mod paths;
 pub mod problems;

@@ -1,9 +1,10 @@
 //! The two reductions: what a request asks of the usable links, and the least kept weight of problem one, else two.
 
 use crate::labels;
+use crate::lines::{Edge, Graph};
 use crate::paths;
 use crate::rules::{Rule, Rules};
-use crate::table::{Request, Table};
+use crate::table::{Link, Request, Table};
 
 /// One reduced problem of a search. Problem one keeps delay and scales cost; problem two the other way about.
 pub struct Reduced<'a> {
@@ -28,9 +29,30 @@ impl Reduced<'_> {
         added(self.search.table.steps(path).map(|(number, behind)| self.weights(number, behind)))
     }
 
+    /// The bound of the kept weight.
+    pub fn bound(&self) -> u64 {
+        if self.which == 1 {
+            self.search.delay_bound()
+        } else {
+            self.search.cost_bound()
+        }
+    }
+
+    /// What the paper's lines are given: each usable link with its weights. The node that it enters is an inner one of a
+    /// path to t, unless it is t.
+    pub fn graph(&self) -> Graph {
+        let Search { table, usable, request, x, .. } = self.search;
+        let edge = |(number, link): (usize, &Link)| {
+            let (kept, scaled) = self.weights(number, (link.to != request.t).then_some(link.to));
+            Edge { link: number, u: link.from as usize, v: link.to as usize, kept, scaled }
+        };
+        let links = table.links.iter().enumerate().filter(|(number, _)| usable[*number]);
+        Graph { n: table.n as usize, s: request.s as usize, x: *x, edges: links.map(edge).collect() }
+    }
+
     /// Whether sums of kept and scaled weight are within their bounds.
     pub fn within(&self, kept: u64, scaled: u64) -> bool {
-        let bound = if self.which == 1 { self.search.delay_bound() } else { self.search.cost_bound() };
+        let bound = self.bound();
         let (x, rules) = (self.search.x, self.search.rules);
         let bound_met = kept < bound || (kept == bound && rules.hold(Rule::EqualBound));
         let x_met = scaled < x || (scaled == x && rules.hold(Rule::EqualScaled));
@@ -69,6 +91,21 @@ impl<'a> Search<'a> {
     /// Looks for the distance; nothing where no usable path exists.
     pub fn new(table: &'a Table, usable: Vec<bool>, request: Request, rules: Rules) -> Option<Search<'a>> {
         let listed = paths::every(table, &usable, request.s, request.t);
+        Search::by(table, usable, request, rules, listed)
+    }
+
+    /// The same where no list of paths is wanted.
+    pub fn unlisted(table: &'a Table, usable: Vec<bool>, request: Request, rules: Rules) -> Option<Search<'a>> {
+        Search::by(table, usable, request, rules, None)
+    }
+
+    fn by(
+        table: &'a Table,
+        usable: Vec<bool>,
+        request: Request,
+        rules: Rules,
+        listed: Option<Vec<Vec<u32>>>,
+    ) -> Option<Search<'a>> {
         let fewest = match &listed {
             Some(paths) => paths.iter().map(|path| path.len() as u32).min()?,
             None => labels::distance(table, &usable, request.s, request.t)?,

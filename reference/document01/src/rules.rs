@@ -62,6 +62,36 @@ pub enum Rule {
     UnusedClear,
     /// A listing is by rising number. Broken: in the order of admission.
     ListedByNumber,
+    /// Line 5 of the paper puts 0 at each k of the source. Broken: at k = 0 alone.
+    SourceAtEachK,
+    /// Line 7 takes a k' of x. Broken: less than x alone.
+    LastColumn,
+    /// Line 8 asks for a sum that is less. Broken: an equal one is taken too.
+    LessAlone,
+    /// In line 10 the link is kept for u. Broken: u is.
+    LinkKept,
+    /// Line 21 makes n - 1 rounds. Broken: one fewer.
+    EveryRound,
+    /// In line 22 k rises. Broken: it falls.
+    KRises,
+    /// In line 23 the links come in table order. Broken: in falling order.
+    LinksRise,
+    /// Line 3 puts NIL at the source too. Broken: what stood there stays.
+    NilAtSource,
+}
+
+impl Rule {
+    /// Those that only the paper's lines read.
+    pub const OF_LINES: [Rule; 8] = [
+        Rule::SourceAtEachK,
+        Rule::LastColumn,
+        Rule::LessAlone,
+        Rule::LinkKept,
+        Rule::EveryRound,
+        Rule::KRises,
+        Rule::LinksRise,
+        Rule::NilAtSource,
+    ];
 }
 
 /// Document 01's rules, all of them or all but one.
@@ -83,9 +113,9 @@ impl Rules {
         self.broken != Some(rule)
     }
 
-    /// Whether all rules hold but perhaps this one.
-    pub fn hold_beside(&self, rule: Rule) -> bool {
-        self.broken.is_none_or(|broken| broken == rule)
+    /// Whether all rules hold but perhaps one of these.
+    pub fn hold_beside(&self, rules: &[Rule]) -> bool {
+        self.broken.is_none_or(|broken| rules.contains(&broken))
     }
 
     pub fn all_hold(&self) -> bool {

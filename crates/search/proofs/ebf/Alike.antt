@@ -1,12 +1,13 @@
 -- What one reduced problem answers depends on the network only through its edges, and on the weights of these: the loops
 -- over the links run below `links`, and the way back stays at a word that is no link.
 -- Assumes nothing.
-use mathlib.Core.Path.{◌≡◌, ap, ◌∙◌}
+use mathlib.Core.Path.{◌≡◌, refl, ap, ◌∙◌}
 use mathlib.Core.Bool.{or-true}
 use mathlib.Core.List.{List}
 use Prim.Native.Nat.{ℕ, ◌+◌, ◌*◌, ◌-◌, ◌<◌}
 use lib.ListN.{replicate}
 use borrow.Author.Tests.{le-leb}
+use Rattle.network.specs.Loops.{iter}
 use Rattle.network.specs.Net.{Net}
 use Rattle.network.specs.Problem.{Problem}
 use Rattle.network.specs.Cut.{Notes, no_notes}
@@ -34,12 +35,16 @@ module _ (g o : Net) (same : SameEdges g o) (q p : Problem) (alike : SameWeights
   round_depends =
       loop_depends (column g q) (column o p) (q.x + 1) (p.x + 1) (rw alike.x) (λ k l _. column_depends k l)
 
+  initialised_depends : (s : ℕ) (l : List ℕ) → initialised g q s l ≡ initialised o p s l
+  unfolding initialised
+  initialised_depends s l = rw (alike.x, alike.bound, same.nodes) refl
+
   ebf_depends : (s : ℕ) (l : List ℕ) → ebf g q s l ≡ ebf o p s l
-  unfolding ebf rounds initialised
+  unfolding ebf rounds
   ebf_depends s l =
       loop_depends (λ _. round g q) (λ _. round o p) (round_count g) (round_count o) (ap (λ n. n - 1) same.nodes) (λ _ l _. round_depends l)
       (initialised g q s l)
-      ∙ cc
+      ∙ ap (iter (λ _. round o p) (round_count o)) (initialised_depends s l)
 
   -- ---- the way back: it stays at a word that is no link
   step_depends : (l : List ℕ) (s : ℕ) (st : TracePlace × Notes) → step_back g q l s st ≡ step_back o p l s st

@@ -1,18 +1,16 @@
 -- A cell says its node and its column, as a number says its two digits, and what is stored at one cell is read there
 -- and at no other, since the words of two cells are never the same.
 -- Assumes nothing.
-use mathlib.Core.Path.{◌≡◌, refl, sym, ap, ◌∙◌}
+use mathlib.Core.Path.{◌≡◌, sym, ap, ◌∙◌}
 use mathlib.Core.List.{List}
-use Prim.Native.Nat.{ℕ, zero, suc, ◌+◌, ◌*◌, ◌/◌, ◌%◌, ◌≤◌, ◌<◌}
+use Prim.Native.Nat.{ℕ, ◌+◌, ◌*◌, ◌/◌, ◌%◌, ◌≤◌, ◌<◌}
 use native.Mathlib.Nat.{le_refl, le_of_eq}
 use native.Mathlib.Omega.{arith}
 use lib.Arith.{digits_lt, digits_div, digits_mod}
 use lib.ListN.{length, get_or, set, length-set}
 use lib.Seq.{get_or-set_same, get_or-set_other, set_out}
-use Rattle.network.specs.Loops.{iter}
-use Rattle.network.proofs.Loops.{iter_keeps}
 use Rattle.network.proofs.Tests.{by_eq, by_lt}
-use Rattle.search.specs.ebf.Table.{cell, cells, number, link_at, put, filled}
+use Rattle.search.specs.ebf.Table.{cell, cells, number, link_at, put}
 
 -- ---- the cells of nodes and columns
 pub cell_inside : (n x v k : ℕ) → v < n → k ≤ x → cell x v k < cells n x
@@ -61,24 +59,3 @@ module _ (l : List ℕ) (c d i : ℕ) where
       rw (e, number_put)
       (by_lt (2 * c) (length l) (λ has. omega (arith, get_or-set_same l (2 * c) d 0 has)) (λ out. rw (set_out l (2 * c) d out) (le_refl _))))
       (λ ne. le_of_eq (number_put_other c' ne))
-
--- ---- the n cells from a on filled with one number
-module _ (a : ℕ) where
-  pub length_filled : (n d : ℕ) (l : List ℕ) → length (filled a n d l) ≡ length l
-  unfolding filled
-  length_filled n d l =
-      iter_keeps (λ j r. set r (2 * (a + j)) d) (λ (r : List ℕ). length r ≡ length l) n l (λ j r low e. length-set r (2 * (a + j)) d ∙ e) refl
-
-  pub filled_inside : (n d : ℕ) (l : List ℕ) (c : ℕ) → a ≤ c → c < a + n → 2 * c < length l → number (filled a n d l) c ≡ d
-  unfolding filled iter
-  filled_inside zero d l c from upto has = absurd (omega arith)
-  filled_inside (suc n) d l c from upto has =
-      let before : List ℕ = filled a n d l in
-      by_eq c (a + n) (λ e. rw e (get_or-set_same before (2 * (a + n)) d 0 (omega (arith, length_filled n d l))))
-      (λ ne. get_or-set_other before (2 * (a + n)) (2 * c) d 0 (λ z. ne (omega arith)) ∙ filled_inside n d l c from (omega arith) has)
-
-  pub filled_outside : (n d : ℕ) (l : List ℕ) (c : ℕ) → (a ≤ c → c < a + n → ⊥) → number (filled a n d l) c ≡ number l c
-  unfolding filled
-  filled_outside n d l c out =
-      iter_keeps (λ j r. set r (2 * (a + j)) d) (λ (r : List ℕ). number r c ≡ number l c) n l
-      (λ j r low e. get_or-set_other r (2 * (a + j)) (2 * c) d 0 (λ z. out (omega arith) (omega arith)) ∙ e) refl

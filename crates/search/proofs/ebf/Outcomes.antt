@@ -13,13 +13,14 @@ use Rattle.network.specs.Limits.{path_words, work_words}
 use Rattle.network.specs.Net.{Net, Ends}
 use Rattle.network.specs.Words.{net_of, LinkTable}
 use Rattle.network.specs.Cut.{follow}
-use Rattle.search.specs.ebf.Table.{cell, cells, number, initialised, rounds, ebf}
+use Rattle.search.specs.ebf.Table.{cell, cells, number, initialised, ebf}
 use Rattle.search.specs.ebf.Trace.{traced}
 use Rattle.search.specs.ebf.Solve.{path_in, answer_in, solve_in, solve}
 use Rattle.search.specs.Heuristic.{outcome_of}
 use Rattle.search.proofs.ebf.Good.{Room}
 use Rattle.search.proofs.ebf.Sound.{initialised_good}
 use Rattle.search.proofs.ebf.Memory.{any_memory_solves}
+use Rattle.search.proofs.ebf.AsPaper.{ebf_as_paper}
 use Rattle.std.specs.Prelude.{Ok, Err}
 use Rattle.search.specs.declared.PartialPath.{PartialPath}
 use Rattle.search.specs.declared.reduced.Reduced.{Reduced}
@@ -29,6 +30,7 @@ use Rattle.network.specs.declared.answer.Reduction.{Reduction}
 use Rattle.network.specs.Reduce.{Outcome}
 use Rattle.search.specs.Solver.{SameEdges, net_in, problem_of}
 use Rattle.search.specs.ebf.OnTable.{Bounded}
+use Rattle.search.specs.ebf.AsPaper.{LeftByPaper}
 use Rattle.search.specs.Forward.{forwarded, grant_of}
 use Rattle.search.specs.Result.{search_answer_of, path_after}
 use Rattle.search.specs.ebf.Passed.{passed}
@@ -52,7 +54,7 @@ passes g p table s t which path noted pass =
     let is = pass ∙ ap (λ (n : List ℕ). forwarded g n s t path) noted in
     (ap (λ (z : PartialPath × List ℕ). grant_of which z.0) is, ap (λ (z : PartialPath × List ℕ). z.1) is)
 
-module _ (p : Reduced) (s t : ℕ) (s_low : s < p.nodes) (t_low : t < p.nodes) (l : List ℕ) (memory : work_words ≤ length l) where
+module _ (p : Reduced) (s : ℕ) (s_low : s < p.nodes) (l : List ℕ) (memory : work_words ≤ length l) where
   -- work memory has room for every table
   room : Room (net_in p) (problem_of p) l
   unfolding cells net_in problem_of
@@ -63,18 +65,17 @@ module _ (p : Reduced) (s t : ℕ) (s_low : s < p.nodes) (t_low : t < p.nodes) (
   unfolding net_in
   hops_end = record { tails = p.fits.tail; heads = p.fits.head }
 
-  -- lines 1 to 5 and then the rounds
-  pub table_is : {l₁ l₂ : List ℕ} → l₁ ≡ initialised (net_in p) (problem_of p) s l → l₂ ≡ rounds (net_in p) (problem_of p) l₁
-      → l₂ ≡ ebf (net_in p) (problem_of p) s l
-  unfolding ebf
-  table_is e₁ e₂ = e₂ ∙ ap (rounds (net_in p) (problem_of p)) e₁
+  -- the table that the rounds leave is the paper's
+  pub table_as_paper : {l₁ : List ℕ} → l₁ ≡ ebf (net_in p) (problem_of p) s l → LeftByPaper (net_in p) (problem_of p) s l₁
+  unfolding net_in
+  table_as_paper e = rw e (ebf_as_paper (net_in p) (problem_of p) hops_end p.fits.links_most s s_low l room)
 
   -- lines 1 to 5 leave every number within the bound, or bound + 1, as the rounds require
   pub table_bounded : {l₁ : List ℕ} → l₁ ≡ initialised (net_in p) (problem_of p) s l → Bounded p l₁
   unfolding net_in problem_of
   table_bounded e v k v_low k_low = rw e ((initialised_good (net_in p) (problem_of p) s l room s_low).below v k v_low k_low)
 
-  module _ {l₂ : List ℕ} (table : l₂ ≡ ebf (net_in p) (problem_of p) s l) where
+  module _ (t : ℕ) (t_low : t < p.nodes) {l₂ : List ℕ} (table : l₂ ≡ ebf (net_in p) (problem_of p) s l) where
     solve_is : solve (net_in p) (problem_of p) s t ≡ answer_in (net_in p) (problem_of p) l₂ s t
     unfolding solve_in net_in
     solve_is =

@@ -1,5 +1,6 @@
 -- The bounds of the table's rows and cells within document 01's ranges.
 -- Assumes nothing.
+use mathlib.Core.Path.{◌≡◌}
 use Prim.Native.Nat.{ℕ, ◌+◌, ◌*◌, ◌-◌, ◌≤◌, ◌<◌}
 use native.Mathlib.Nat.{mul-le-mul}
 use native.Mathlib.Omega.{arith}
@@ -20,3 +21,8 @@ work_enough = omega arith
 pub row_fits_lem : (x s : ℕ) → s < most_nodes → x ≤ most_x → cell x s 0 + (x + 1) ≤ most_cells
 unfolding cell
 row_fits_lem x s hs hx = omega (arith, row_below x s hs hx)
+
+-- the cells of a row stand one after another
+pub row_cell : (x s k : ℕ) → cell x s 0 + k ≡ cell x s k
+unfolding cell
+row_cell x s k = omega arith

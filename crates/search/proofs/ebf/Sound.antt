@@ -12,9 +12,10 @@ use Rattle.network.specs.Net.{Net, Ends}
 use Rattle.network.specs.Problem.{Problem}
 use Rattle.network.proofs.Loops.{iter_keeps}
 use Rattle.network.proofs.Tests.{by_eq}
-use Rattle.search.specs.ebf.Table.{cell, cells, number, link_at, put, filled, source_cells, source_number, initialised, offered, column, round, round_count, rounds, ebf}
+use Rattle.search.specs.ebf.Table.{cell, number, link_at, put, initialised, offered, column, round, round_count, rounds, ebf}
 use Rattle.search.proofs.ebf.Good.{at, via, Room, Step, Trace, Good}
-use Rattle.search.proofs.ebf.Cells.{cell_inside, cell_node, cell_column, length_put, number_put_same, number_put_other, link_put_same, link_put_other, put_lower, length_filled, filled_inside, filled_outside}
+use Rattle.search.proofs.ebf.Cells.{cell_inside, cell_node, cell_column, length_put, number_put_same, number_put_other, link_put_same, link_put_other, put_lower}
+use Rattle.search.proofs.ebf.Initialised.{initialised_length, initialised_starts, initialised_far}
 use Rattle.search.proofs.ebf.Relaxed.{tail_cell, head_cell, offer, offered_cases}
 
 module _ (g : Net) (q : Problem) (ends : Ends g) (s : ℕ) where
@@ -140,38 +141,17 @@ module _ (g : Net) (q : Problem) (ends : Ends g) (s : ℕ) where
   round_good l = iter_keeps (column g q) (Good g q s) (q.x + 1) l (λ k r _. column_good k r)
 
 -- ---- lines 1 to 5
-module _ (g : Net) (q : Problem) (s : ℕ) (l : List ℕ) (room : Room g q l) where
-  -- a cell of a node other than the source was not reached
-  pub initialised_far : (v k : ℕ) → v < g.nodes → k ≤ q.x → (v ≡ s → ⊥) → number (initialised g q s l) (cell q.x v k) ≡ q.bound + 1
-  unfolding initialised cell
-  initialised_far v k v_low k_low other =
-      let inside : cell q.x v k < cells g.nodes q.x = cell_inside g.nodes q.x v k v_low k_low in
-      filled_outside (cell q.x s 0) (source_cells q) source_number (filled 0 (cells g.nodes q.x) (q.bound + 1) l) (cell q.x v k)
-      (λ from upto. other (cell_node q.x v k s (cell q.x v k - cell q.x s 0) k_low (omega arith) (omega arith)))
-      ∙ filled_inside 0 (cells g.nodes q.x) (q.bound + 1) l (cell q.x v k) (omega arith) (omega arith) (omega arith)
-
-  initialised_starts : s < g.nodes → (k : ℕ) → k ≤ q.x → number (initialised g q s l) (cell q.x s k) ≡ 0
-  unfolding initialised cell
-  initialised_starts s_low k k_low =
-      let inside : cell q.x s k < cells g.nodes q.x = cell_inside g.nodes q.x s k s_low k_low in
-      let before : List ℕ = filled 0 (cells g.nodes q.x) (q.bound + 1) l in
-      let long : length before ≡ length l = length_filled 0 (cells g.nodes q.x) (q.bound + 1) l in
-      filled_inside (cell q.x s 0) (source_cells q) source_number before (cell q.x s k) (omega arith) (omega arith) (omega arith)
-
-  initialised_length : length (initialised g q s l) ≡ length l
-  unfolding initialised
-  initialised_length = simp length_filled
-
-  pub initialised_good : s < g.nodes → Good g q s (initialised g q s l)
-  initialised_good s_low =
-      record {
-        room = omega (arith, initialised_length);
-        source = initialised_starts s_low;
-        below = λ v k v_low k_low.
-            by_eq v s (λ e. rw e (omega (arith, initialised_starts s_low k k_low))) (λ e. le_of_eq (initialised_far v k v_low k_low e));
-        traced = λ v k v_low k_low within.
-            by_eq v s (λ e. (zero, e)) (λ e. absurd (omega (arith, initialised_far v k v_low k_low e, within)));
-      }
+pub initialised_good : (g : Net) (q : Problem) (s : ℕ) (l : List ℕ) → Room g q l → s < g.nodes → Good g q s (initialised g q s l)
+initialised_good g q s l room s_low =
+    record {
+      room = omega (arith, initialised_length g q s l, room);
+      source = initialised_starts g q s l room s_low;
+      below = λ v k v_low k_low.
+          by_eq v s (λ e. rw e (omega (arith, initialised_starts g q s l room s_low k k_low)))
+          (λ e. le_of_eq (initialised_far g q s l room v k v_low k_low e));
+      traced = λ v k v_low k_low within.
+          by_eq v s (λ e. (zero, e)) (λ e. absurd (omega (arith, initialised_far g q s l room v k v_low k_low e, within)));
+    }
 
 -- ---- lines 20 to 24
 pub ebf_good : (g : Net) (q : Problem) → Ends g → (s : ℕ) → s < g.nodes → (l : List ℕ) → Room g q l → Good g q s (ebf g q s l)

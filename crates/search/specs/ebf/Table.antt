@@ -1,8 +1,9 @@
--- The table d[v, k] of the extended Bellman-Ford search in work memory, lines 1 to 10 and 20 to 24 of the paper.
--- Line 5 makes d[v, k] the least kept weight found of a walk from s to v with scaled weight at most k.
+-- The table d[v, k] of the extended Bellman-Ford search as the code keeps it in the words of work memory, with the lines of
+-- ../Paper.antt that each step is. Line 5 makes d[v, k] the least kept weight found of a walk from s to v with scaled weight
+-- at most k.
 -- Assumes nothing.
 use Rattle.std.specs.Prelude.{ℕ, ◌+◌, ◌*◌, ◌-◌, Bool, cond, ◌&&◌, List, ltb, leb, get_or, set}
-use Rattle.network.specs.Limits.{most_nodes, most_x}
+use Rattle.network.specs.Limits.{most_links, most_nodes, most_x}
 use Rattle.network.specs.Loops.{iter}
 use Rattle.network.specs.Net.{Net}
 use Rattle.network.specs.Problem.{Problem}
@@ -28,9 +29,16 @@ link_at l c = get_or l (2 * c + 1) 0
 abbrev pub put : List ℕ → ℕ → ℕ → ℕ → List ℕ
 put l c d i = set (set l (2 * c) d) (2 * c + 1) i
 
--- the n cells from a on get the number d
-unfoldable pub filled : ℕ → ℕ → ℕ → List ℕ → List ℕ
-filled a n d l = iter (λ j r. set r (2 * (a + j)) d) n l
+-- what stands for ∞, a number over the bound, and for NIL, a word that is no link
+abbrev pub infinity : Problem → ℕ
+infinity q = q.bound + 1
+
+abbrev pub no_link : ℕ
+no_link = most_links
+
+-- lines 1 to 3, where there are n cells
+unfoldable pub filled : ℕ → ℕ → List ℕ → List ℕ
+filled n far l = iter (λ c r. put r c far no_link) n l
 
 -- lines 4 and 5: one cell of the source for each k from 0 to x, and its number
 abbrev pub source_cells : Problem → ℕ
@@ -39,10 +47,12 @@ source_cells q = q.x + 1
 abbrev pub source_number : ℕ
 source_number = 0
 
--- lines 1 to 5, where bound + 1 stands for ∞. A link is read only where the number is within the bound,
--- so no link word is cleared for line 3
+abbrev pub started : Problem → ℕ → List ℕ → List ℕ
+started q s l = iter (λ k r. set r (2 * cell q.x s k) source_number) (source_cells q) l
+
+-- lines 1 to 5
 unfoldable pub initialised : Net → Problem → ℕ → List ℕ → List ℕ
-initialised g q s l = filled (cell q.x s 0) (source_cells q) source_number (filled 0 (cells g.nodes q.x) (q.bound + 1) l)
+initialised g q s l = started q s (filled (cells g.nodes q.x) (infinity q) l)
 
 -- lines 8 to 10: link i of kept weight w leads from cell a to cell b. From a cell that was not reached nothing is offered
 abbrev pub better : ℕ → ℕ → ℕ → ℕ → List ℕ → Bool

@@ -3,7 +3,7 @@ use Rattle.std.proofs.Common.{◌≤◌, arith, length, rules}
 use Rattle.network.specs.Limits.{work_words}
 use Rattle.network.specs.Words.{net_of}
 use Rattle.search.specs.Solver.{net_in}
-use Rattle.search.proofs.ebf.Outcomes.{table_is, answers_none, answers_path}
+use Rattle.search.proofs.ebf.Outcomes.{answers_none, answers_path}
 use Rattle.route.proofs.attempt.attempt.Goals as goal
 
 pub returns-then-p-work : goal.returns-then-p-work
@@ -11,9 +11,8 @@ returns-then-p-work c =
     let s_low = c.requires.nodes.0 in
     let t_low = c.requires.nodes.1 in
     let memory : work_words ≤ length c.args.work.now = search rules in
-    let table = table_is c.args.p.now _ _ s_low t_low _ memory c.initialise.ensures c.rounds.ensures in
     let is =
-    answers_none c.args.p.now _ _ s_low t_low _ memory table c.cell-at.ensures.is _ c.requires.edges c.args.which c.args.path.now c.if-p-work.true in
+    answers_none c.args.p.now _ s_low _ memory _ t_low c.ebf.ensures.is c.cell-at.ensures.is _ c.requires.edges c.args.which c.args.path.now c.if-p-work.true in
     record { answer = is.0; path = is.1 }
 
 pub found-requires-clause-nodes : goal.found-requires-clause-nodes
@@ -25,8 +24,7 @@ returns c =
     let s_low = c.requires.nodes.0 in
     let t_low = c.requires.nodes.1 in
     let memory : work_words ≤ length c.args.work.now = search rules in
-    let table = table_is c.args.p.now _ _ s_low t_low _ memory c.initialise.ensures c.rounds.ensures in
     let is =
-    answers_path c.args.p.now _ _ s_low t_low _ memory table c.cell-at.ensures.is _ c.requires.edges c.args.which c.args.path.now c.if-p-work.false
+    answers_path c.args.p.now _ s_low _ memory _ t_low c.ebf.ensures.is c.cell-at.ensures.is _ c.requires.edges c.args.which c.args.path.now c.if-p-work.false
     c.requires.path_words_in_bounds c.found.ensures.answer c.found.ensures.path in
     record { answer = is.0; path = is.1 }
