@@ -55,8 +55,8 @@ fn start(p: &Reduced<'_>, work: &mut [u32; WORK_WORDS], s: usize)
     }
 }
 
-// Lines 1 to 5, with bound + 1 for ∞ and NO_LINK for NIL. It stands by itself in the machine code, which leaves the rounds behind it
-// more registers (docs/performance.md).
+// Lines 1 to 5, with bound + 1 for ∞ and NO_LINK for NIL. `ebf` calls it, with a node for `s`. It stands by itself in the
+// machine code, which leaves the rounds behind it more registers (docs/performance.md).
 #[inline(never)]
 #[tactic(auto, unfolding(search::specs::ebf::Table::initialised, search::specs::Solver::net_in, search::specs::Solver::problem_of))]
 pub fn initialise(p: &Reduced<'_>, work: &mut [u32; WORK_WORDS], s: usize)

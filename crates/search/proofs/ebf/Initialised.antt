@@ -1,23 +1,25 @@
 -- What lines 1 to 5 leave: 0 at every cell of the source, ∞ at every other cell, and NIL at all of them.
 -- Assumes nothing.
-use mathlib.Core.Path.{◌≡◌, refl, ap, ◌∙◌}
+use mathlib.Core.Path.{◌≡◌, refl, ◌∙◌}
 use mathlib.Core.List.{List}
-use Prim.Native.Nat.{ℕ, zero, suc, ◌+◌, ◌*◌, ◌≤◌, ◌<◌}
+use Prim.Native.Nat.{ℕ, ◌+◌, ◌*◌, ◌≤◌, ◌<◌}
 use native.Mathlib.Omega.{arith}
 use lib.ListN.{length, set, length-set}
 use lib.Seq.{get_or-set_same, get_or-set_other}
 use Rattle.network.specs.Loops.{iter}
 use Rattle.network.specs.Net.{Net}
 use Rattle.network.specs.Problem.{Problem}
-use Rattle.network.proofs.Loops.{iter_keeps}
+use Rattle.network.proofs.Loops.{iter_keeps, iter_brings}
 use Rattle.network.proofs.Tests.{by_eq}
 use Rattle.search.specs.ebf.Table.{cell, cells, number, link_at, put, infinity, no_link, filled, source_cells, source_number, initialised}
 use Rattle.search.proofs.ebf.Good.{Room}
+use Rattle.search.proofs.ebf.Rows.{row_cell}
 use Rattle.search.proofs.ebf.Cells.{cell_inside, cell_node, length_put, number_put_same, number_put_other, link_put_same, link_put_other}
 
 -- ---- lines 1 to 3
 -- what stands for ∞, and NIL, at cell c
 record Unreached (far c : ℕ) (l : List ℕ) : Type 0 where
+  pub room : 2 * c + 1 < length l
   pub number : number l c ≡ far
   pub link : link_at l c ≡ no_link
 
@@ -26,21 +28,30 @@ unfolding filled
 length_filled n far l =
     iter_keeps (λ c r. put r c far no_link) (λ (r : List ℕ). length r ≡ length l) n l (λ c r low e. length_put r c far _ ∙ e) refl
 
-filled_inside : (n far : ℕ) (l : List ℕ) (c : ℕ) → c < n → 2 * c + 1 < length l → Unreached far c (filled n far l)
-unfolding filled iter
-filled_inside zero far l c low has = absurd (omega arith)
-filled_inside (suc n) far l c low has =
-    let before : List ℕ = filled n far l in
-    by_eq c n
-    (λ e.
-    let here : 2 * n + 1 < length before = omega (arith, length_filled n far l) in
-    rw e (record { number = number_put_same before n far no_link here; link = link_put_same before n far no_link here }))
-    (λ ne.
-    let there = filled_inside n far l c (omega arith) has in
-    record {
-      number = number_put_other before n far no_link c ne ∙ there.number;
-      link = link_put_other before n far no_link c ne ∙ there.link;
-    })
+module _ (far c : ℕ) where
+  put_here : (l : List ℕ) → 2 * c + 1 < length l → Unreached far c (put l c far no_link)
+  put_here l has =
+      record {
+        room = rw length_put has;
+        number = number_put_same l c far no_link has;
+        link = link_put_same l c far no_link has;
+      }
+
+  put_again : (i : ℕ) (l : List ℕ) → Unreached far c l → Unreached far c (put l i far no_link)
+  put_again i l h =
+      by_eq c i (λ e. rw (← e) (put_here l h.room))
+      (λ ne.
+      record {
+        room = rw length_put h.room;
+        number = number_put_other l i far no_link c ne ∙ h.number;
+        link = link_put_other l i far no_link c ne ∙ h.link;
+      })
+
+  filled_inside : (n : ℕ) (l : List ℕ) → c < n → 2 * c + 1 < length l → Unreached far c (filled n far l)
+  unfolding filled
+  filled_inside n l low has =
+      iter_brings (λ c r. put r c far no_link) (λ (r : List ℕ). 2 * c + 1 < length r) (Unreached far c) c n low
+      (λ i r _ h. rw length_put h) put_here put_again l has
 
 -- ---- lines 4 and 5, as far as they have come
 module _ (q : Problem) (s : ℕ) where
@@ -66,17 +77,31 @@ module _ (q : Problem) (s : ℕ) where
         ∙ e)
         refl
 
-  turns_start : (n : ℕ) (l : List ℕ) (k : ℕ) → k < n → 2 * cell q.x s k < length l → number (iter turn n l) (cell q.x s k) ≡ source_number
-  unfolding iter
-  turns_start zero l k low has = absurd (omega arith)
-  turns_start (suc n) l k low has =
-      let before : List ℕ = iter turn n l in
-      let long : length before ≡ length l = length_turns n l in
-      by_eq (cell q.x s k) (cell q.x s n)
-      (λ e. rw e (get_or-set_same before (2 * cell q.x s n) source_number 0 (omega (arith, long, ap (λ (c : ℕ). 2 * c) e))))
-      (λ ne.
-      get_or-set_other before (2 * cell q.x s n) (2 * cell q.x s k) source_number 0 (λ z. ne (omega arith))
-      ∙ turns_start n l k (by_eq k n (λ z. absurd (ne (ap (cell q.x s) z))) (λ z. omega arith)) has)
+  -- the number of the source at k
+  record Started (k : ℕ) (l : List ℕ) : Type 0 where
+    pub room : 2 * cell q.x s k < length l
+    pub number : number l (cell q.x s k) ≡ source_number
+
+  module _ (k : ℕ) where
+    turn_here : (l : List ℕ) → 2 * cell q.x s k < length l → Started k (turn k l)
+    turn_here l has =
+        record { room = rw length-set has; number = get_or-set_same l (2 * cell q.x s k) source_number 0 has }
+
+    turn_again : (j : ℕ) (l : List ℕ) → Started k l → Started k (turn j l)
+    turn_again j l h =
+        by_eq k j (λ e. rw (← e) (turn_here l h.room))
+        (λ ne.
+        record {
+          room = rw length-set h.room;
+          number =
+              get_or-set_other l (2 * cell q.x s j) (2 * cell q.x s k) source_number 0
+              (λ z. ne (omega (arith, row_cell q.x s k, row_cell q.x s j)))
+              ∙ h.number;
+        })
+
+    turns_start : (n : ℕ) (l : List ℕ) → k < n → 2 * cell q.x s k < length l → Started k (iter turn n l)
+    turns_start n l low has =
+        iter_brings turn (λ (r : List ℕ). 2 * cell q.x s k < length r) (Started k) k n low (λ i r _ h. rw length-set h) turn_here turn_again l has
 
 -- ---- lines 1 to 5
 module _ (g : Net) (q : Problem) (s : ℕ) (l : List ℕ) where
@@ -92,7 +117,7 @@ module _ (g : Net) (q : Problem) (s : ℕ) (l : List ℕ) where
       at_first : Unreached (infinity q) (cell q.x v k) unreached
       at_first =
           let inside : cell q.x v k < cells g.nodes q.x = cell_inside g.nodes q.x v k v_low k_low in
-          filled_inside (cells g.nodes q.x) (infinity q) l (cell q.x v k) inside (omega arith)
+          filled_inside (infinity q) (cell q.x v k) (cells g.nodes q.x) l inside (omega arith)
 
       -- a node other than the source was not reached
       pub initialised_far : (v ≡ s → ⊥) → number (initialised g q s l) (cell q.x v k) ≡ infinity q
@@ -107,4 +132,5 @@ module _ (g : Net) (q : Problem) (s : ℕ) (l : List ℕ) where
     unfolding initialised
     initialised_starts s_low k k_low =
         let inside : cell q.x s k < cells g.nodes q.x = cell_inside g.nodes q.x s k s_low k_low in
-        turns_start q s (source_cells q) unreached k (omega arith) (omega (arith, length_filled (cells g.nodes q.x) (infinity q) l))
+        let started = turns_start q s k (source_cells q) unreached (omega arith) (omega (arith, length_filled (cells g.nodes q.x) (infinity q) l)) in
+        started.number
