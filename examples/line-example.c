@@ -1,7 +1,8 @@
 /*
  * The C interface on document 01's net A: its link file is read and loaded without hold times, and then come quotes, an
- * admission, a listing and a release. Last it is loaded anew with a hold time for node 1, as of a radio repeater. The
- * names M1 to M9 are document 01's cases; line-example.expected has its figures, and what follows from its rules.
+ * admission, a listing and a release. Then a shop opens with all its jobs in one call. Last the net is loaded anew with a
+ * hold time for node 1, as of a radio repeater. The names M1 to M9 are document 01's cases; line-example.expected has its
+ * figures, and what follows from its rules.
  *
  *     tests/support/archive
  *     cc -Wall -Wextra -Werror -Iinclude examples/line-example.c target/staticlib/libline.a -o line-example
@@ -20,7 +21,7 @@ static uint32_t holds[LINE_MOST_NODES];
 static uint8_t file[65536];
 
 /* The refusal, or problem, delay, cost and links. */
-static void print_answer(const char *name, uint32_t refusal, const uint32_t answer[4])
+static void print_answer(const char *name, uint32_t refusal, const uint32_t answer[4], const uint32_t *links)
 {
     if (refusal != LINE_GRANTED) {
         printf("%s: refused %u\n", name, (unsigned)refusal);
@@ -29,7 +30,7 @@ static void print_answer(const char *name, uint32_t refusal, const uint32_t answ
     printf("%s: problem %u, delay %u, cost %u, links", name, (unsigned)answer[0], (unsigned)answer[1],
            (unsigned)answer[2]);
     for (uint32_t i = 0; i < answer[3]; i++)
-        printf(" %u", (unsigned)path[i]);
+        printf(" %u", (unsigned)links[i]);
     printf("\n");
 }
 
@@ -40,7 +41,7 @@ static void quote(const char *name, uint32_t t, uint32_t units, uint32_t delay_b
     uint32_t answer[4];
     uint32_t refusal = line_quote(area, LINE_AREA_WORDS, work, LINE_WORK_WORDS, path, LINE_PATH_WORDS, 0, t, units,
                                   delay_bound, cost_bound, coefficient, answer);
-    print_answer(name, refusal, answer);
+    print_answer(name, refusal, answer, path);
 }
 
 static void admit(const char *name, uint32_t circuit, uint32_t units)
@@ -48,7 +49,33 @@ static void admit(const char *name, uint32_t circuit, uint32_t units)
     uint32_t answer[4];
     uint32_t refusal = line_admit(area, LINE_AREA_WORDS, work, LINE_WORK_WORDS, path, LINE_PATH_WORDS, circuit, 0, 3,
                                   units, 8, 20, 8, answer);
-    print_answer(name, refusal, answer);
+    print_answer(name, refusal, answer, path);
+}
+
+/* All jobs in one call, and what each is answered: its refusal's number or 0, the four numbers of a grant, and the path. The
+   first takes 4 units of links 0 1 2. The second needs 7, which link 3 alone has, and that takes 9 ms; the third is the same
+   job with a delay bound of 9. */
+static void open_shop(void)
+{
+    static const uint32_t jobs[3 * LINE_JOB_WORDS] = {
+        7, 0, 3, 4, 8, 20, 8, /* circuit, s, t, units, delay bound, cost bound, coefficient */
+        9, 0, 3, 7, 8, 20, 8,
+        9, 0, 3, 7, 9, 20, 8,
+    };
+    uint32_t answers[3 * LINE_ANSWER_WORDS], count[1];
+    uint32_t refusal = line_admit_jobs(area, LINE_AREA_WORDS, work, LINE_WORK_WORDS, jobs, 3 * LINE_JOB_WORDS, answers,
+                                       3 * LINE_ANSWER_WORDS, count);
+    if (refusal != LINE_GRANTED) {
+        printf("jobs refused %u\n", (unsigned)refusal);
+        return;
+    }
+    printf("jobs: %u\n", (unsigned)count[0]);
+    for (uint32_t k = 0; k < count[0]; k++) {
+        const uint32_t *said = answers + LINE_ANSWER_WORDS * k;
+        char name[32];
+        snprintf(name, sizeof name, "job %u, circuit %u", (unsigned)k, (unsigned)jobs[LINE_JOB_WORDS * k]);
+        print_answer(name, said[0], said + 1, said + 5);
+    }
 }
 
 static void list(void)
@@ -135,6 +162,11 @@ int main(int argc, char **argv)
     printf("release again: refused %u\n", (unsigned)line_release(area, LINE_AREA_WORDS, 7));
     list();
     free_units(0);
+
+    open_shop();
+    list();
+    free_units(0);
+    free_units(3);
 
     /* Node 1 lies between 0 and 3 on links 0 1 2, whose delay grows from 6 to 10: over D, so link 3 is left. From 0 to 1
        it is the target, and its hold time does not count. */

@@ -43,6 +43,15 @@ extern "C" {
 #define LINE_CIRCUIT_WORDS 34
 #define LINE_FIRST_HOLD 3459
 
+/* All jobs in one call: the words of a job, the most jobs, the words of a full job list, and the words that answer a job. A job is
+   its circuit number, s, t, units, delay bound, cost bound and coefficient: job k begins at word LINE_JOB_WORDS * k. Its answer
+   begins at word LINE_ANSWER_WORDS * k: the refusal's number or 0, problem, delay, cost and number of links, and from word 5 of it
+   31 path words. Every word of an answer that is not used is 0. */
+#define LINE_JOB_WORDS 7
+#define LINE_MOST_JOBS 64
+#define LINE_JOB_LIST_WORDS 448
+#define LINE_ANSWER_WORDS 36
+
 /* Ranges of a net: a delay, a cost, a capacity and a hold time may be 0. */
 #define LINE_LEAST_NODES 2
 #define LINE_MOST_DELAY 1000000
@@ -97,6 +106,8 @@ extern "C" {
 #define LINE_CLASSES_LENGTH 20       /* class table: no words, or over 256, or no multiple of 4 */
 #define LINE_CLASSES_OUT_OF_RANGE 21 /* class table: a number of a row is out of range */
 #define LINE_HOLDS_OUT_OF_RANGE 22   /* load: the hold times are not n, or one is out of range */
+#define LINE_JOBS_LENGTH 23          /* the words of a job list are no multiple of 7, or over 448 */
+#define LINE_ANSWERS_TOO_SHORT 24    /* the answer buffer has under 36 words for each job */
 
 /*
  * Loads a link table, 5 words a link: from, to, delay, cost, capacity; and n hold times, holds[v] for node v: the ms for
@@ -143,6 +154,20 @@ uint32_t line_admit(uint32_t *area, size_t area_words, uint32_t *work, size_t wo
  * Refusals: 5, 13.
  */
 uint32_t line_release(uint32_t *area, size_t area_words, uint32_t circuit);
+
+/*
+ * Admits up to 64 jobs, 7 words a job, as line_admit would admit each in this order with a path buffer of 31 words, on the area
+ * that the job before it left. A refused job does not stop the later ones. answer[0] is the number of jobs, granted or not; 36
+ * words of answers for each job say what it was answered: 0, problem, delay, cost, number of links and the path's links, or the
+ * refusal's number; the other words of these 36 are 0. Words past the last job's keep theirs. No jobs are granted too, with 0. A
+ * job's refusal is one of 8, 11, 12, 9 and 10, and the call returns 0. Of the area the same words are open after, and the same not
+ * touched, as after an admission.
+ * Ranges: area_words at least 3,491; work_words at least 16,384; job_words a multiple of 7, at most 448; answer_words at least 36
+ * for each job. A job's numbers are judged as line_admit judges them.
+ * Refusals: 5, 6, 23, 24.
+ */
+uint32_t line_admit_jobs(uint32_t *area, size_t area_words, uint32_t *work, size_t work_words, const uint32_t *jobs,
+                         size_t job_words, uint32_t *answers, size_t answer_words, uint32_t answer[1]);
 
 /*
  * Lists the numbers of the h held circuits, rising, in the first words of numbers, as the circuits stand in the area;

@@ -29,6 +29,8 @@ static uint32_t work[LINE_WORK_WORDS];
 static uint32_t path[LINE_PATH_WORDS];
 static uint32_t numbers[LINE_MOST_CIRCUITS];
 static uint32_t rows[LINE_CLASS_WORDS];
+static uint32_t jobs[LINE_JOB_LIST_WORDS];
+static uint32_t answers[LINE_ANSWER_WORDS * LINE_MOST_JOBS];
 static uint32_t answer[4];
 static uint32_t code;
 static uint32_t cost_bound;
@@ -94,6 +96,16 @@ static void admit(void)
 {
     code = line_admit(area, LINE_AREA_WORDS, work, LINE_WORK_WORDS, path, LINE_PATH_WORDS, 64, 0, LINE_MOST_NODES - 1,
                       1, delay_bound, cost_bound, 8, answer);
+}
+
+static void admit_jobs(void)
+{
+    for (size_t k = 0; k < LINE_MOST_JOBS; k++) {
+        const uint32_t job[LINE_JOB_WORDS] = {64, 0, LINE_MOST_NODES - 1, 1, delay_bound, cost_bound, 8};
+        memcpy(jobs + LINE_JOB_WORDS * k, job, sizeof job);
+    }
+    code = line_admit_jobs(area, LINE_AREA_WORDS, work, LINE_WORK_WORDS, jobs, LINE_JOB_LIST_WORDS, answers,
+                           sizeof answers / sizeof *answers, answer);
 }
 
 static void release(void)
@@ -196,11 +208,13 @@ int main(void)
     cost_bound = 309;
     row("line_quote", "refused 10", quote, LINE_NO_SOLUTION);
     row("line_admit", "refused 10", admit, LINE_NO_SOLUTION);
+    row("line_admit_jobs", "refused 10", admit_jobs, LINE_GRANTED);
     cost_bound = 310;
     row("line_quote", "problem two", quote, LINE_GRANTED);
     row("line_admit", "problem two", admit, LINE_GRANTED);
     row("line_list", "listed", list, LINE_GRANTED);
     row("line_release", "released", release, LINE_GRANTED);
+    row("line_admit_jobs", "problem two", admit_jobs, LINE_GRANTED);
     row("line_free_units", "answered", free_units, LINE_GRANTED);
     row("line_check_classes", "accepted", check_classes, LINE_GRANTED);
     row("line_class", "answered", class_row, LINE_GRANTED);

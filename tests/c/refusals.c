@@ -15,6 +15,7 @@ static uint32_t path[LINE_PATH_WORDS];
 static uint32_t numbers[LINE_MOST_CIRCUITS];
 static uint32_t table[LINE_TABLE_WORDS];
 static uint32_t rows[260];
+static uint32_t answers[LINE_ANSWER_WORDS * LINE_MOST_JOBS];
 static uint32_t answer[4];
 static int failures = 0;
 
@@ -44,13 +45,15 @@ static void ready(void)
     fill(numbers, LINE_MOST_CIRCUITS, 1002);
     fill(table, LINE_TABLE_WORDS, 1003);
     fill(answer, 4, 1004);
+    fill(answers, LINE_ANSWER_WORDS * LINE_MOST_JOBS, 1006);
 }
 
 /* A refusal: the number, and nothing changed. */
 static void refused(const char *call, uint32_t number, uint32_t expected)
 {
     int same = memcmp(before, area, sizeof area) == 0 && all(path, LINE_PATH_WORDS, 1001)
-               && all(numbers, LINE_MOST_CIRCUITS, 1002) && all(table, LINE_TABLE_WORDS, 1003) && all(answer, 4, 1004);
+               && all(numbers, LINE_MOST_CIRCUITS, 1002) && all(table, LINE_TABLE_WORDS, 1003) && all(answer, 4, 1004)
+               && all(answers, LINE_ANSWER_WORDS * LINE_MOST_JOBS, 1006);
     if (number != expected || !same) {
         printf("%s: gave %u, expected %u%s\n", call, (unsigned)number, (unsigned)expected,
                same ? "" : "; a buffer changed");
@@ -79,6 +82,13 @@ static uint32_t admit(size_t area_words, size_t work_words, size_t path_words, u
 {
     return line_admit(area, area_words, work, work_words, path, path_words, circuit, 0, t, units, delay_bound, 20, 8,
                       answer);
+}
+
+/* Jobs whose every number is 0. */
+static uint32_t admit_jobs(size_t area_words, size_t work_words, size_t job_words, size_t answer_words)
+{
+    static const uint32_t jobs[LINE_JOB_LIST_WORDS + LINE_JOB_WORDS];
+    return line_admit_jobs(area, area_words, work, work_words, jobs, job_words, answers, answer_words, answer);
 }
 
 static uint32_t load(const uint32_t *links, size_t link_words, const uint32_t *holds, size_t hold_words, size_t area_words)
@@ -178,6 +188,37 @@ static void admit_refusals(void)
     granted("release", line_release(area, a, 8));
 }
 
+/* Word counts on both sides of each limit. A job of zeros is refused with 8 in its own words, and the call is granted. */
+static void job_refusals(void)
+{
+    static const size_t lengths[] = {1, 6, 8, 13, 15, 447, 449, 455};
+    static const uint32_t counts[] = {0, 1, 2, 63, 64};
+    const size_t a = LINE_AREA_WORDS, w = LINE_WORK_WORDS, n = LINE_ANSWER_WORDS * LINE_MOST_JOBS;
+    for (size_t i = 0; i < sizeof lengths / sizeof lengths[0]; i++) {
+        refused("admit jobs", admit_jobs(a - 1, w - 1, lengths[i], 0), LINE_AREA_NOT_WELL_FORMED);
+        refused("admit jobs", admit_jobs(a, w - 1, lengths[i], 0), LINE_WORK_TOO_SHORT);
+        refused("admit jobs", admit_jobs(a, w, lengths[i], 0), LINE_JOBS_LENGTH);
+        refused("admit jobs", admit_jobs(a, w, lengths[i], n), LINE_JOBS_LENGTH);
+    }
+    for (size_t i = 0; i < sizeof counts / sizeof counts[0]; i++) {
+        const size_t jobs = LINE_JOB_WORDS * counts[i], words = LINE_ANSWER_WORDS * counts[i];
+        if (counts[i] > 0) {
+            refused("admit jobs", admit_jobs(a - 1, w - 1, jobs, words - 1), LINE_AREA_NOT_WELL_FORMED);
+            refused("admit jobs", admit_jobs(a, w - 1, jobs, words - 1), LINE_WORK_TOO_SHORT);
+            refused("admit jobs", admit_jobs(a, w, jobs, words - 1), LINE_ANSWERS_TOO_SHORT);
+            refused("admit jobs", admit_jobs(a, w, jobs, 0), LINE_ANSWERS_TOO_SHORT);
+        }
+        int is_granted = admit_jobs(a, w, jobs, words) == LINE_GRANTED && answer[0] == counts[i] && answer[1] == 1004;
+        for (size_t j = 0; j < n; j++)
+            is_granted &= answers[j] == (j >= words ? 1006 : j % LINE_ANSWER_WORDS == 0 ? LINE_REQUEST_OUT_OF_RANGE : 0);
+        if (!is_granted || memcmp(before, area, sizeof area) != 0) {
+            printf("admit jobs: not %u jobs that are refused with 8\n", (unsigned)counts[i]);
+            failures++;
+        }
+        ready();
+    }
+}
+
 static void other_refusals(void)
 {
     const size_t a = LINE_AREA_WORDS;
@@ -242,6 +283,8 @@ static void not_well_formed(void)
     ready();
     refused("quote", quote(a, w, p, 3, 1, 8), LINE_AREA_NOT_WELL_FORMED);
     refused("admit", admit(a, w, p, 7, 3, 1, 8), LINE_AREA_NOT_WELL_FORMED);
+    refused("admit jobs", admit_jobs(a, w, LINE_JOB_WORDS, LINE_ANSWER_WORDS), LINE_AREA_NOT_WELL_FORMED);
+    refused("admit jobs", admit_jobs(a, w, 0, 0), LINE_AREA_NOT_WELL_FORMED);
     refused("release", line_release(area, a, 7), LINE_AREA_NOT_WELL_FORMED);
     refused("list", line_list(area, a, numbers, LINE_MOST_CIRCUITS, answer), LINE_AREA_NOT_WELL_FORMED);
     refused("free units", line_free_units(area, a, 0, answer), LINE_AREA_NOT_WELL_FORMED);
@@ -355,6 +398,7 @@ int main(void)
     load_writes();
     quote_refusals();
     admit_refusals();
+    job_refusals();
     other_refusals();
     class_refusals();
     damaged_circuits();

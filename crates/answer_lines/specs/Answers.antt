@@ -41,6 +41,16 @@ unfolding line_text grant_text
 routed_text (refuses k) buffer = refused_text k
 routed_text (grants g) buffer = grant_text g buffer
 
+-- a count, and the words that it counts
+abbrev pub counted_text : ℕ → List ℕ → List ℕ
+counted_text n words = line_text (n ∷ words)
+
+-- all jobs in one call, with the words that answer them
+unfoldable pub jobs_text : Reply ℕ → List ℕ → List ℕ
+unfolding line_text
+jobs_text (refuses k) words = refused_text k
+jobs_text (grants n) words = counted_text n words
+
 -- a refusal has 23 bytes at most
 abbrev pub answer_room : {A : Type 0} → (A → ℕ) → Reply A → ℕ
 answer_room room (refuses k) = 23

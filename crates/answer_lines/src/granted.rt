@@ -1,7 +1,7 @@
 // What calls grant, as the rest of a line: a path, a release, a number that is read.
 ghost use Rattle.std.specs.Prelude.{◌≡◌, ℕ, ◌+◌, ◌*◌, ◌≤◌, List, [], ◌∷◌, ◌++◌, length};
 ghost use Rattle.arrayvec.specs.ArrayVec.{array_vec_len};
-ghost use Rattle.answer_lines.specs.Answers.{line_text, grant_text, released_text};
+ghost use Rattle.answer_lines.specs.Answers.{line_text, grant_text, counted_text, released_text};
 
 use crate::{put_line, put_path};
 use arrayvec::ArrayVec;
@@ -37,6 +37,26 @@ impl<const N: usize> Granted<N> for Route<'_> {
         let g = self.grant;
         text::put_fields(text, &[g.problem.into(), g.delay, g.cost]);
         put_path(text, self.path, g.links);
+    }
+}
+
+// How many words there are of something, and these words.
+#[derive(Clone, Copy)]
+pub(crate) struct Counted<'a> {
+    pub(crate) count: u32,
+    pub(crate) words: &'a [u32],
+}
+
+// The count and the words.
+impl<const N: usize> Granted<N> for Counted<'_> {
+    ghost written = { λ c. counted_text c.count c.words.now };
+
+    ghost room = { λ c. 11 * length c.words.now + 23 };
+
+    #[tactic(auto, unfolding(crate::specs::Answers::line_text))]
+    fn put(self, text: &mut ArrayVec<u8, N>) {
+        text::put_field(text, self.count);
+        put_line(text, self.words);
     }
 }
 

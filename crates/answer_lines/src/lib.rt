@@ -8,16 +8,15 @@ mod granted;
 ghost use Rattle.std.specs.Prelude.{◌≡◌, ◌+◌, ◌*◌, ◌≤◌, ◌++◌, length};
 ghost use Rattle.arrayvec.specs.ArrayVec.{array_vec_len};
 ghost use Rattle.area.specs.Refusals.{number, numbered};
-ghost use Rattle.answer_lines.specs.Answers.{line_text, refused_text, path_text, answer_text, routed_text, answer_room, loading_text};
+ghost use Rattle.answer_lines.specs.Answers.{line_text, refused_text, path_text, answer_text, routed_text, jobs_text, answer_room, loading_text};
 
 pub use crate::granted::Granted;
-use crate::granted::Route;
+use crate::granted::{Counted, Route};
 use area::Refusal;
 use arrayvec::ArrayVec;
 use network::Grant;
 
-// A field for each of these numbers, and the newline. The callers put one or two numbers, or the words of a path whose room
-// `put_path` asks for.
+// A field for each of these numbers, and the newline. The callers put one or two numbers, or words whose room they ask for.
 #[tactic(auto, unfolding(crate::specs::Answers::line_text))]
 pub fn put_line<const N: usize>(text: &mut ArrayVec<u8, N>, numbers: &[u32])
     requires { array_vec_len text.old + 11 * length numbers.now + 1 ≤ N }
@@ -48,7 +47,7 @@ fn put_refused<const N: usize>(text: &mut ArrayVec<u8, N>, refusal: Refusal)
 }
 
 // What a call answered: that it is refused, or what it grants. The programs lend room for the longest: a path of 31 links has
-// 375 bytes at most, and what else is answered has 23.
+// 375 bytes at most, each word that answers a job has 11, and what else is answered has 23.
 #[tactic(auto, unfolding(crate::specs::Answers::answer_text))]
 pub fn put_answer<T: Granted<N>, const N: usize>(
     text: &mut ArrayVec<u8, N>,
@@ -77,6 +76,21 @@ pub fn put_routed<const N: usize>(
     ensures most { array_vec_len text.new ≤ array_vec_len text.old + 11 * length path.now + 34 }
 {
     put_answer(text, answer.map(|grant| Route { grant, path }));
+}
+
+// What the call for all jobs answered, with the words that answer them: none where it is refused. `history` lends room for those of
+// its jobs.
+#[tactic(auto, unfolding(crate::specs::Answers::answer_text, crate::specs::Answers::jobs_text))]
+pub fn put_jobs<const N: usize>(
+    text: &mut ArrayVec<u8, N>,
+    answer: Result<u32, Refusal>,
+    words: &[u32],
+)
+    requires { array_vec_len text.old + 11 * length words.now + 23 ≤ N }
+    ensures text { text.new.items ≡ text.old.items ++ jobs_text (numbered answer) words.now }
+    ensures most { array_vec_len text.new ≤ array_vec_len text.old + 11 * length words.now + 23 }
+{
+    put_answer(text, answer.map(|count| Counted { count, words }));
 }
 
 // What a load answered, as a line of its own. The programs lend a text of 13 bytes.

@@ -5,7 +5,7 @@ pub mod Arrays
 pub mod WordsAt
 pub mod Sets
 pub mod Found
-mod PathTest
+pub mod PathTest
 pub mod Formed
 mod StationWords
 pub mod Places

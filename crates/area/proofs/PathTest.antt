@@ -4,7 +4,7 @@
 use mathlib.Core.Path.{◌≡◌, refl, sym, ◌∙◌, subst}
 use mathlib.Core.Bool.{true, false, not, ◌&&◌, false≢true}
 use mathlib.Core.List.{List, [], ◌∷◌, map}
-use Prim.Native.Nat.{ℕ, zero, suc, ◌<◌}
+use Prim.Native.Nat.{ℕ, zero, suc, ◌≤◌, ◌<◌}
 use native.Mathlib.Omega.{arith}
 use lib.Dec.{ltb, eqb}
 use lib.ListN.{length, get_or}
@@ -108,6 +108,14 @@ module _ (t : Table) where
   walk_low s e [] walk k low = absurd (omega arith)
   walk_low s e (i ∷ p) walk zero low = walk.0
   walk_low s e (i ∷ p) walk (suc k) low = walk_low (head_of t i) e p walk.3 k (omega arith)
+
+  walk_below : (n : ℕ) → t.links ≤ n → (s e : ℕ) (p : List ℕ) → Walk (whole t) s e p → All (λ (i : ℕ). i < n) p
+  unfolding whole
+  walk_below n few s e [] walk = tt
+  walk_below n few s e (i ∷ p) walk = (omega (arith, walk.0, few), walk_below n few (head_of t i) e p walk.3)
+
+  pub path_links_below : (n : ℕ) → t.links ≤ n → (p : List ℕ) → PathOf t p → All (λ (i : ℕ). i < n) p
+  path_links_below n few p (s, e, path) = walk_below n few s e p path.walk
 
   pub path_links_low : (p : List ℕ) → PathOf t p → (k : ℕ) → k < length p → get_or p k 0 < t.links
   path_links_low p (s, e, path) = walk_low s e p path.walk

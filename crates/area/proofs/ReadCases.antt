@@ -11,7 +11,7 @@ use lib.ListN.{length, get_or, drop, length-map}
 use borrow.Author.Tests.{le-leb, lt-leb, ltb-true, le-ltb, lt-ltb}
 use Rattle.area.specs.Layout.{area_words, most_circuits}
 use Rattle.area.specs.Station.{nodes_in, links_in, held_in, station, table_in, hold_of}
-use Rattle.area.specs.Books.{numbers, holds}
+use Rattle.area.specs.Books.{numbers, holds, free}
 use Rattle.area.specs.Held.{number_at, place_of, ListsHeld}
 use Rattle.area.specs.Formed.{LinkFits, WellFormed, well_formed}
 use Rattle.area.specs.Refusals.{Reply, refuses, grants, Answered}
@@ -55,6 +55,11 @@ module _ (w : List ℕ) (formed : well_formed w ≡ true) where
 
   pub formed_links : get_or w 1 0 ≤ most_links
   formed_links = links_few w (formed_says w formed)
+
+  -- its free units are those of its station
+  pub formed_free : (i : ℕ) → free_in w i ≡ free (station w) i
+  unfolding free_in
+  formed_free i = rw formed refl
 
   pub formed_held : get_or w 2 0 ≤ most_circuits
   formed_held = held_few w (formed_says w formed)

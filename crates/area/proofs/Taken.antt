@@ -39,6 +39,11 @@ module _ (u : ℕ) (p free : List ℕ) (j i : ℕ) where
   unfolding enough
   enough_turn low here fits = rw (add-one, drop-cons p j 0 low, ← here, le-leb u (get_or free i 0) fits)
 
+  -- where the links still to do have enough, the next one has
+  pub enough_next : j < length p → i ≡ get_or p j 0 → enough u (drop j p) free ≡ true → u ≤ get_or free i 0
+  unfolding enough
+  enough_next low here fits = leb-true u (get_or free i 0) (fst_of _ _ (rw (drop-cons p j 0 low, ← here) at fits))
+
   -- a link with too few
   pub enough_short : j < length p → i ≡ get_or p j 0 → get_or free i 0 < u → false ≡ enough u (drop j p) free
   unfolding enough

@@ -6,7 +6,7 @@ use mathlib.Core.List.{List, ◌∷◌, ◌++◌}
 use Prim.Native.Nat.{ℕ, zero, suc, ◌+◌, ◌≤◌, ◌<◌}
 use native.Mathlib.Nat.{add-zero, zero-add, add-suc, suc-add}
 use native.Mathlib.Omega.{arith}
-use lib.ListN.{length, get_or, take, drop}
+use lib.ListN.{length, get_or, take, drop, get_or-append}
 use lib.Seq.{drop-cons, ext_get_or}
 use Rattle.area.specs.Station.{words_at}
 
@@ -34,6 +34,10 @@ words_list w a p h =
     λ i low.
     let k : i < length p = omega (arith, words_length w a (length p)) in
     words_at_lem w a (length p) i k ∙ h i k
+
+-- and one that others stand behind, from the front
+pub words_front : (p rest : List ℕ) → words_at (p ++ rest) 0 (length p) ≡ p
+words_front p rest = words_list (p ++ rest) 0 p (λ i low. rw zero-add (get_or-append p rest 0 i low))
 
 -- a part of the list is the words from its place on
 pub words_part : (w : List ℕ) (a n : ℕ) → a + n ≤ length w → take n (drop a w) ≡ words_at w a n

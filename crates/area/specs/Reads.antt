@@ -25,9 +25,9 @@ listed w l = checked (λ _. l) (list_checks w (length l)) (numbers (station w).h
 -- ---- what a listing means, with no algorithm
 -- the answer and the buffer after, for a reply that grants these numbers: how many they are, and the numbers in the first
 -- words, where the words past them keep theirs
-abbrev pub count_of : Reply (List ℕ) → Reply ℕ
+abbrev pub count_of : {A : Type 0} → Reply (List A) → Reply ℕ
 count_of (refuses k) = refuses k
-count_of (grants ns) = grants (length ns)
+count_of (grants l) = grants (length l)
 
 abbrev pub buffer_after : Reply (List ℕ) → List ℕ → List ℕ
 buffer_after (refuses k) l = l

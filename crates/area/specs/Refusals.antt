@@ -55,6 +55,8 @@ number refusal.TableShort = 19
 number refusal.ClassWords = 20
 number refusal.ClassRange = 21
 number refusal.HoldRange = 22
+number refusal.JobWords = 23
+number refusal.AnswersShort = 24
 
 -- the refusal for what a search did not find
 abbrev pub refusal_of : NoRoute → Refusal

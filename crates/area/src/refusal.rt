@@ -38,6 +38,9 @@ pub enum Refusal {
     ClassRange = 21,
     // Load, after 4: the hold times are not one for each node, or one is out of range.
     HoldRange = 22,
+    // All jobs in one call: the job list's word count is wrong, the answer buffer is too short.
+    JobWords = 23,
+    AnswersShort = 24,
 }
 
 impl From<Refusal> for u32 {

@@ -20,7 +20,8 @@ pub fn quote(area: &[u32], work: &mut [u32], path: &mut [u32], r: Request) -> Re
     ensures path { path.new ≡ path_after (quote area.now (length work.old) (length path.old) r) path.old }
     ensures means { QuoteMeans area.now (length work.old) path.old r (numbered result) path.new }
 {
-    let station = Station::read(area)?;
+    let free = station::free_in(area)?;
+    let station = Station { area, free: &free };
     check_request(&station, work.len(), path.len(), r)?;
     find_path(&station, work, path, r)
 }

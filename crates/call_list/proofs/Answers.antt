@@ -22,17 +22,18 @@ use Rattle.area.specs.Layout.{area_words}
 use Rattle.area.specs.Station.{table_in, circuit_of}
 use Rattle.area.specs.Load.{load_answer, area_loaded}
 use Rattle.rules.specs.Calls.{quote, admission, booked, release, cleared}
-use Rattle.ledger.specs.History.{answers, path_given, bookings, remaining}
+use Rattle.rules.specs.AdmitJobs.{singly, all_booked, job_answers, admit_jobs, jobs_booked, jobs_answered}
+use Rattle.ledger.specs.History.{answers, path_given, jobs_given, bookings, remaining}
 use Rattle.ledger.proofs.Striking.{none_struck, all_remain}
 use Rattle.ledger.proofs.Demands.{third_demand}
 use Rattle.cases.specs.Document01.{links_a, unheld, blank}
-use Rattle.call_list.specs.Calls.{rows, calls}
+use Rattle.call_list.specs.Calls.{row_count, rows, calls}
 use Rattle.call_list.specs.Answers.{expected, held}
 use Rattle.call_list.proofs.Runs.{load_accepts, struck_calls, end_of, runs_agree}
 
 -- ---- from an area of zeros
 computed : (answers (area_loaded blank (unheld links_a)) (calls false) ≡ expected) × (bookings (end_of false blank) ≡ held)
-unfolding calls rows path_given area_loaded quote admission booked release cleared table_in circuit_of outcome search tried solve solve_in answer_in path_in ebf rounds round column offered relaxed improved initialised filled cell cells traced step_back place_back noted follow distance layer spread problem_one problem_two scaled iter first
+unfolding calls rows path_given jobs_given area_loaded quote admission booked release cleared singly all_booked job_answers admit_jobs jobs_booked jobs_answered table_in circuit_of outcome search tried solve solve_in answer_in path_in ebf rounds round column offered relaxed improved initialised filled cell cells traced step_back place_back noted follow distance layer spread problem_one problem_two scaled iter first
 computed = (refl, refl)
 
 blank_accepted : load_answer blank (unheld links_a) ≡ grants tt
@@ -54,8 +55,8 @@ module _ (w : List ℕ) (long : area_words ≤ length w) where
   bookings_expected = same.1 ∙ computed.1
 
   -- the second run: of these answers those to the calls that remain, and the same bookings
-  pub remaining_expected : answers (area_loaded w (unheld links_a)) (calls true) ≡ remaining (struck_calls 0 25) expected
-  remaining_expected = (runs_agree w w long long).0 ∙ ap (remaining (struck_calls 0 25)) answers_expected
+  pub remaining_expected : answers (area_loaded w (unheld links_a)) (calls true) ≡ remaining (struck_calls 0 row_count) expected
+  remaining_expected = (runs_agree w w long long).0 ∙ ap (remaining (struck_calls 0 row_count)) answers_expected
 
   pub same_expected : bookings (end_of true w) ≡ held
   same_expected = (runs_agree w w long long).1 ∙ bookings_expected

@@ -2,7 +2,7 @@
 -- accepts net A.
 -- Assumes nothing.
 use Prim.Native.Nat.{ℕ, zero, suc, ◌≤◌}
-use mathlib.Core.Path.{◌≡◌, refl, sym, ap, ◌∙◌}
+use mathlib.Core.Path.{◌≡◌, refl, sym, ap, ap₂, ◌∙◌}
 use mathlib.Core.Bool.{Bool, true, false, cond}
 use mathlib.Core.List.{List, [], ◌∷◌, ◌++◌}
 use native.Mathlib.Omega.{arith}
@@ -16,6 +16,7 @@ use Rattle.area.specs.Formed.{links_fit, hold_times_fit}
 use Rattle.area.specs.Station.{held_words}
 use Rattle.area.specs.Load.{load_answer, area_loaded}
 use Rattle.area.proofs.LoadCases.{all_pass}
+use Rattle.ledger.specs.Entries.{admitting_jobs}
 use Rattle.ledger.specs.History.{Lending, measured, answers, area_at_end, bookings, Struck, end, strike, keep, remaining}
 use Rattle.ledger.proofs.Demands.{third_demand}
 use Rattle.cases.specs.Document01.{links_a, unheld}
@@ -23,8 +24,8 @@ use Rattle.cases.specs.declared.Asked.{Asked}
 use Rattle.cases.specs.declared.Asked.TheVariants.{Quote, Admission}
 use Rattle.call_list.specs.declared.Lent.{Lent}
 use Rattle.call_list.specs.declared.Row.{Row}
-use Rattle.call_list.specs.declared.Row.TheVariants.{Asks, Releases}
-use Rattle.call_list.specs.Calls.{row_at, is_quote, calling, work_lent, path_lent, work_filler, path_filler, filled_work, filled_path, lent, calls_from, calls}
+use Rattle.call_list.specs.declared.Row.TheVariants.{Asks, Releases, Opens}
+use Rattle.call_list.specs.Calls.{row_count, jobs, row_at, is_quote, calling, work_lent, path_lent, answers_lent, most_answers, work_filler, buffer_filler, filled_work, filled_path, filled_answers, lent, calls_from, calls}
 
 -- ---- a request's call
 -- measured, it goes by the lengths of what it is lent
@@ -43,7 +44,11 @@ work_length k l = length_lent (work_lent l) work_words (work_filler false k) (wo
 
 path_length : (l : Lent) → length (filled_path false l) ≡ length (filled_path true l)
 unfolding filled_path
-path_length l = length_lent (path_lent l) path_words (path_filler false) (path_filler true)
+path_length l = length_lent (path_lent l) path_words (buffer_filler false) (buffer_filler true)
+
+answers_length : (l : Lent) → length (filled_answers false l) ≡ length (filled_answers true l)
+unfolding filled_answers
+answers_length l = length_lent (answers_lent l) most_answers (buffer_filler false) (buffer_filler true)
 
 measured_lent : (k : ℕ) (r : Row) → measured (lent false k r) ≡ measured (lent true k r)
 unfolding lent
@@ -53,6 +58,7 @@ measured_lent k (Asks a l) =
     ∙ ap (calling a (length (filled_work true k l))) (path_length l)
     ∙ sym (measured_calling a _ _)
 measured_lent k (Releases c) = refl
+measured_lent k (Opens l) = ap₂ (λ (n m : ℕ). admitting_jobs n jobs m) (work_length k l) (answers_length l)
 
 -- so the second run's list is the first one's, with its quotes struck
 struck_quote : (k : ℕ) (r : Row) (cs ds : List Lending) → is_quote r ≡ true → Struck cs ds → Struck (lent false k r ∷ cs) ds
@@ -60,6 +66,7 @@ unfolding lent
 struck_quote k (Asks (Quote r) l) cs ds e s = strike s
 struck_quote k (Asks (Admission c r) l) cs ds e s = absurd (cc)
 struck_quote k (Releases c) cs ds e s = absurd (cc)
+struck_quote k (Opens l) cs ds e s = absurd (cc)
 
 struck_call : (k : ℕ) (r : Row) (cs ds : List Lending) → Struck cs ds
     → Struck (lent false k r ∷ cs) (cond (is_quote r) [] (lent true k r ∷ []) ++ ds)
@@ -85,14 +92,14 @@ module _ (w v : List ℕ) where
   -- words
   abbrev pub Agree : Type 0
   Agree =
-      (answers (area_loaded v (unheld links_a)) (calls true) ≡ remaining (struck_calls 0 25) (answers (area_loaded w (unheld links_a)) (calls false)))
+      (answers (area_loaded v (unheld links_a)) (calls true) ≡ remaining (struck_calls 0 row_count) (answers (area_loaded w (unheld links_a)) (calls false)))
       × (bookings (end_of true v) ≡ bookings (end_of false w))
       × (held_words (end_of true v) ≡ held_words (end_of false w))
 
   pub accepted_agree : load_answer w (unheld links_a) ≡ grants tt → load_answer v (unheld links_a) ≡ grants tt → Agree
   unfolding calls
   accepted_agree accepted accepted' =
-      (third_demand (unheld links_a) w accepted (calls false)).struck v accepted' (calls true) (struck_calls 0 25)
+      (third_demand (unheld links_a) w accepted (calls false)).struck v accepted' (calls true) (struck_calls 0 row_count)
 
   -- on any two areas that are long enough
   pub runs_agree : area_words ≤ length w → area_words ≤ length v → Agree

@@ -1,11 +1,13 @@
 -- The answers to the list of calls and the bookings at its end, as docs/history.md calculates them by hand.
 -- Assumes nothing.
-use Rattle.std.specs.Prelude.{ℕ, List, [], ◌∷◌, length}
+use Rattle.std.specs.Prelude.{ℕ, ◌-◌, List, [], ◌∷◌, ◌++◌, length, replicate}
+use Rattle.network.specs.Limits.{path_words}
+use Rattle.network.specs.Reduce.{problem_number}
 use Rattle.network.specs.declared.answer.Reduction.{Reduction}
 use Rattle.network.specs.declared.answer.Reduction.TheVariants.{One, Two}
 use Rattle.area.specs.Refusals.{refuses, grants}
 use Rattle.area.specs.Station.{Circuit}
-use Rattle.ledger.specs.History.{Given, of_request, of_release}
+use Rattle.ledger.specs.History.{Given, of_request, of_release, of_jobs}
 use Rattle.cases.specs.Document01.{three}
 
 abbrev refused : ℕ → Given
@@ -19,6 +21,16 @@ unreleased k = of_release (refuses k)
 
 abbrev released : Given
 released = of_release (grants tt)
+
+abbrev unopened : ℕ → Given
+unopened k = of_jobs (refuses k) []
+
+-- the 36 words that answer a job
+abbrev refused_job : ℕ → List ℕ
+refused_job k = k ∷ replicate 35 0
+
+abbrev granted_job : Reduction → ℕ → ℕ → List ℕ → List ℕ
+granted_job which d c p = 0 ∷ problem_number which ∷ d ∷ c ∷ length p ∷ p ++ replicate (path_words - length p) 0
 
 -- by the three links, and by link 3
 abbrev by_three : Reduction → Given
@@ -57,11 +69,23 @@ expected =
     ∷ by_link3
     ∷ by_link3
     ∷ refused 11
+    -- rows 25 to 29
+    ∷ released
+    ∷ of_jobs (grants 4) (granted_job One 6 15 three ++ refused_job 9 ++ refused_job 11 ++ granted_job One 2 5 (0 ∷ []))
+    ∷ refused 9
+    ∷ unopened 6
+    ∷ unopened 24
     ∷ []
 
 abbrev circuit : ℕ → ℕ → List ℕ → Circuit
 circuit c u p = record { number = c; units = u; path = p }
 
--- by rising number; in the order of admission they are 9, 7, 65535 and 8
+-- by rising number; in the order of admission they are 7, 65535, 8, 21 and 22
 abbrev pub held : List Circuit
-held = circuit 7 2 three ∷ circuit 8 10 (3 ∷ []) ∷ circuit 9 6 three ∷ circuit 65535 2 (1 ∷ 2 ∷ []) ∷ []
+held =
+    circuit 7 2 three
+    ∷ circuit 8 10 (3 ∷ [])
+    ∷ circuit 21 6 three
+    ∷ circuit 22 1 (0 ∷ [])
+    ∷ circuit 65535 2 (1 ∷ 2 ∷ [])
+    ∷ []

@@ -6,4 +6,5 @@ pub mod FreeLines
 pub mod HoldTimes
 pub mod SteadyList
 pub mod PaperLines
+pub mod OpeningJobs
 pub mod ClassCases

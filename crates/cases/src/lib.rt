@@ -1,8 +1,9 @@
 // Document 01's worked cases (specs/Document01.antt), cases of bounds of 0 (specs/FreeLines.antt), of hold times
-// (specs/HoldTimes.antt), of the steady circuit list (specs/SteadyList.antt), of the paper's table (specs/PaperLines.antt) and of
-// class tables (specs/ClassCases.antt), with the proofs that they hold (proofs/Worked.antt, and a file of the same name for each of
-// the others). In the code stand the link words of document 01's two nets, the types of a case and a short form of a request, for
-// the programs that load the nets and make the calls. There is no function here.
+// (specs/HoldTimes.antt), of the steady circuit list (specs/SteadyList.antt), of the paper's table (specs/PaperLines.antt), of all
+// jobs in one call (specs/OpeningJobs.antt) and of class tables (specs/ClassCases.antt), with the proofs that they hold
+// (proofs/Worked.antt, and a file of the same name for each of the others). In the code stand the link words of document 01's two
+// nets, the types of a case and a short form of a request, for the programs that load the nets and make the calls. There is no
+// function here.
 #![tactic(auto)]
 
 pub use network::{Request, Terms};

@@ -9,13 +9,13 @@ use Rattle.network.specs.Lists.{All}
 use Rattle.network.proofs.Tests.{by_bool}
 use Rattle.area.specs.Refusals.{grants}
 use Rattle.area.specs.Load.{load_answer, area_loaded}
-use Rattle.ledger.specs.Entries.{Call, quoting, admitting, releasing}
+use Rattle.ledger.specs.Entries.{Call, quoting, admitting, releasing, admitting_jobs}
 use Rattle.ledger.specs.History.{Lending, measured, Given, answers, Struck, end, strike, keep, remaining}
 use Rattle.cases.specs.Document01.{links_a, unheld}
 use Rattle.cases.specs.declared.Asked.TheVariants.{Quote, Admission}
 use Rattle.call_list.specs.declared.Row.{Row}
-use Rattle.call_list.specs.declared.Row.TheVariants.{Asks, Releases}
-use Rattle.call_list.specs.Calls.{row_at, is_quote, lent, calls_from, calls}
+use Rattle.call_list.specs.declared.Row.TheVariants.{Asks, Releases, Opens}
+use Rattle.call_list.specs.Calls.{row_count, row_at, is_quote, lent, calls_from, calls}
 use Rattle.call_list.proofs.Runs.{struck_calls, accepted_agree}
 use Rattle.history.specs.Lines.{line_of, lines_of, unquoted_lines, rows_from, rows_made, run_text}
 
@@ -24,12 +24,14 @@ abbrev quotes : {Lent : Type 0} → Call Lent → Bool
 quotes (quoting work path r) = true
 quotes (admitting work path c r) = false
 quotes (releasing c) = false
+quotes (admitting_jobs work jobs answers) = false
 
 -- by its numbers and lengths alone
 quotes_measured : (c : Lending) → quotes (measured c) ≡ quotes c
 quotes_measured (quoting work path r) = refl
 quotes_measured (admitting work path c r) = refl
 quotes_measured (releasing c) = refl
+quotes_measured (admitting_jobs work jobs answers) = refl
 
 -- a row's call is one where the row is a quote
 quotes_lent : (struck : Bool) (k : ℕ) (r : Row) → quotes (lent struck k r) ≡ is_quote r
@@ -37,6 +39,7 @@ unfolding lent
 quotes_lent struck k (Asks (Quote r) l) = refl
 quotes_lent struck k (Asks (Admission c r) l) = refl
 quotes_lent struck k (Releases c) = refl
+quotes_lent struck k (Opens l) = refl
 
 -- the second run makes none
 abbrev NoQuotes : List Lending → Type 0
@@ -93,5 +96,5 @@ pub text_again : (w v : List ℕ) → load_answer w (unheld links_a) ≡ grants 
 unfolding rows_made calls
 text_again w v accepted accepted' =
     ap (lines_of (rows_made true))
-    ((accepted_agree w v accepted accepted').0 ∙ remain_unquoted (struck_calls 0 25) (no_quotes 0 25) (answers (area_loaded w (unheld links_a)) (calls false)))
-    ∙ lines_unquoted 0 25 (answers (area_loaded w (unheld links_a)) (calls false))
+    ((accepted_agree w v accepted accepted').0 ∙ remain_unquoted (struck_calls 0 row_count) (no_quotes 0 row_count) (answers (area_loaded w (unheld links_a)) (calls false)))
+    ∙ lines_unquoted 0 row_count (answers (area_loaded w (unheld links_a)) (calls false))

@@ -1,10 +1,10 @@
 // Runs one list of calls twice over document 01's net A, each time on a freshly loaded area: first every call, then the
-// list without its quotes, on an area that held other words before it was loaded. Work memory and path buffer hold other
-// words in the second run, and have the same lengths. By the claim of the crate `ledger` each remaining call is answered
+// list without its quotes, on an area that held other words before it was loaded. Work memory, path buffer and answer
+// buffer hold other words in the second run, and have the same lengths. By the claim of the crate `ledger` each remaining call is answered
 // as before, and the bookings at the end are the same, in the same words.
 //
 // A line is the call's row, its name, and then problem, delay, cost and links; or 0 and the refusal's number; or
-// released. After the calls come the held circuits as they stand in the area, each with its units and its links, and
+// released; or, of all jobs in one call, how many they are and the 36 words that answer each. After the calls come the held circuits as they stand in the area, each with its units and its links, and
 // then each link's free units.
 //
 // The contracts tie the program to that claim: each run leaves the area that the history of its calls leaves and puts the text

@@ -22,10 +22,11 @@ use Rattle.area.specs.Order.{by_number}
 use Rattle.area.specs.Moves.{without}
 use Rattle.area.specs.Refusals.{Rule, FirstApplies, Passes, refuses, grants, IsRefused, IsGranted}
 use Rattle.area.specs.Load.{LoadInput, load_answer, area_loaded}
-use Rattle.area.specs.Reads.{list_answer, listed, free_answer}
+use Rattle.area.specs.Reads.{count_of, list_answer, listed, free_answer}
 use Rattle.network.specs.declared.Terms.{Terms}
 use Rattle.rules.specs.Replies.{PathGrant, PathReply, answer_of, path_of, path_after, ReleaseReply}
 use Rattle.rules.specs.Calls as calls
+use Rattle.rules.specs.AdmitJobs.{admit_jobs, jobs_booked, jobs_answered}
 use Rattle.rules.specs.Classes.{check_answer, class_answer}
 use Rattle.rules.specs.Allowed.{Grant, search_rules, request_rules, number_rules, release_rules}
 use Rattle.link_format.specs.declared.Size.{Size}
@@ -61,6 +62,12 @@ module _ (demand : FirstDemand) where
       × (calls.cleared w c (calls.release w c) ≡ w))
   release_decided = demand.release
 
+  pub jobs_decided : (w : List ℕ) (work : ℕ) (words l : List ℕ)
+      → ((n : ℕ) × (count_of (admit_jobs w work words (length l)) ≡ grants n))
+      ⊎ ((number : ℕ) × (memb number (5 ∷ 6 ∷ 23 ∷ 24 ∷ []) ≡ true) × (count_of (admit_jobs w work words (length l)) ≡ refuses number)
+      × ((jobs_booked w (admit_jobs w work words (length l)) ≡ w) × (jobs_answered (admit_jobs w work words (length l)) l ≡ l)))
+  jobs_decided = demand.jobs
+
   pub list_decided : (w l : List ℕ)
       → ((h : ℕ) × (list_answer w (length l) ≡ grants h))
       ⊎ ((number : ℕ) × (memb number (5 ∷ 14 ∷ []) ≡ true) × (list_answer w (length l) ≡ refuses number) × (listed w l ≡ l))
@@ -85,6 +92,44 @@ module _ (demand : FirstDemand) where
       → ((s : Size) × (read_answer f (length t) ≡ grants s))
       ⊎ ((number : ℕ) × (memb number (17 ∷ 18 ∷ 19 ∷ []) ≡ true) × (read_answer f (length t) ≡ refuses number) × (table_read f t ≡ t))
   file_decided = demand.link_file
+
+-- no solution of either problem, at whatever distance
+abbrev pub Unsolvable : Net → Request → Type 0
+Unsolvable h q =
+    (k : ℕ) → Distance h q.source q.target k
+    → NoSolution h (one h q k) q.source q.target × NoSolution h (two h q k) q.source q.target
+
+pub unsolvable : (h : Net) (q : Request) → Unsolvable h q → Solvable h q → ⊥
+unsolvable h q none (k, far, (p, inl s)) = (none k far).0 p s
+unsolvable h q none (k, far, (p, inr s)) = (none k far).1 p s
+
+-- past its checks a request is refused exactly so
+pub exactly_so : (h : Net) (q : Request) (a : PathReply) → IsRefused a ↔ (Solvable h q → ⊥) → IsRefused a ↔ Unsolvable h q
+exactly_so h q a said =
+    (λ e k far. (λ p s. said.0 e (k, far, (p, inl s)), λ p s. said.0 e (k, far, (p, inr s))), λ none. said.1 (unsolvable h q none))
+
+-- every field of a granted path
+abbrev pub Good : Net → Request → PathGrant → Type 0
+Good h q b =
+    Walk h q.source q.target b.path
+    × Distinct (nodes_of h q.source b.path)
+    × (sum h.delay b.path ≤ delay_bound q)
+    × (sum h.cost b.path ≤ cost_bound q)
+    × ((k : ℕ) × Distance h q.source q.target k
+    × (((b.problem ≡ One) × Best h (one h q k) q.source q.target b.path)
+    ⊎ ((b.problem ≡ Two) × NoSolution h (one h q k) q.source q.target × Best h (two h q k) q.source q.target b.path)))
+    × (b.delay ≡ sum h.delay b.path)
+    × (b.cost ≡ sum h.cost b.path)
+
+pub good : (h : Net) (q : Request) (b : PathGrant) → GrantedPath h q b → Good h q b
+good h q b p = (p.runs, p.once, p.bounds.delay, p.bounds.cost, go p.least, p.delay, p.cost)
+  where
+    go : ((b.problem ≡ One) × GrantedByOne h q b.path) ⊎ ((b.problem ≡ Two) × GrantedByTwo h q b.path)
+        → (k : ℕ) × Distance h q.source q.target k
+        × (((b.problem ≡ One) × Best h (one h q k) q.source q.target b.path)
+        ⊎ ((b.problem ≡ Two) × NoSolution h (one h q k) q.source q.target × Best h (two h q k) q.source q.target b.path))
+    go (inl (e, a)) = (a.0, a.1, inl (e, a.2))
+    go (inr (e, a)) = (a.0, a.1, inr (e, a.2, a.3))
 
 -- ---- a quote, an admission of circuit c and a release of circuit d, from the area that Load leaves of w
 module _ (w : List ℕ) (input : LoadInput) (work path work' path' : List ℕ) (r r' : Request) (c d : ℕ) where
@@ -128,39 +173,7 @@ module _ (w : List ℕ) (input : LoadInput) (work path work' path' : List ℕ) (
   abbrev admission_rules : List Rule
   admission_rules = request_rules early (length work') (length path') r' ++ number_rules early c
 
-  -- no solution of either problem, at whatever distance
-  abbrev Unsolvable : Net → Request → Type 0
-  Unsolvable h q =
-      (k : ℕ) → Distance h q.source q.target k
-      → NoSolution h (one h q k) q.source q.target × NoSolution h (two h q k) q.source q.target
-
-  unsolvable : (h : Net) (q : Request) → Unsolvable h q → Solvable h q → ⊥
-  unsolvable h q none (k, far, (p, inl s)) = (none k far).0 p s
-  unsolvable h q none (k, far, (p, inr s)) = (none k far).1 p s
-
   -- ---- the second demand: every field of a granted path, of the quote and of the admission
-  abbrev Good : Net → Request → PathGrant → Type 0
-  Good h q b =
-      Walk h q.source q.target b.path
-      × Distinct (nodes_of h q.source b.path)
-      × (sum h.delay b.path ≤ delay_bound q)
-      × (sum h.cost b.path ≤ cost_bound q)
-      × ((k : ℕ) × Distance h q.source q.target k
-      × (((b.problem ≡ One) × Best h (one h q k) q.source q.target b.path)
-      ⊎ ((b.problem ≡ Two) × NoSolution h (one h q k) q.source q.target × Best h (two h q k) q.source q.target b.path)))
-      × (b.delay ≡ sum h.delay b.path)
-      × (b.cost ≡ sum h.cost b.path)
-
-  good : (h : Net) (q : Request) (b : PathGrant) → GrantedPath h q b → Good h q b
-  good h q b p = (p.runs, p.once, p.bounds.delay, p.bounds.cost, go p.least, p.delay, p.cost)
-    where
-      go : ((b.problem ≡ One) × GrantedByOne h q b.path) ⊎ ((b.problem ≡ Two) × GrantedByTwo h q b.path)
-          → (k : ℕ) × Distance h q.source q.target k
-          × (((b.problem ≡ One) × Best h (one h q k) q.source q.target b.path)
-          ⊎ ((b.problem ≡ Two) × NoSolution h (one h q k) q.source q.target × Best h (two h q k) q.source q.target b.path))
-      go (inl (e, a)) = (a.0, a.1, inl (e, a.2))
-      go (inr (e, a)) = (a.0, a.1, inr (e, a.2, a.3))
-
   module _ (demand : SecondDemand w input list) where
     pub quoted_path : (b : PathGrant) → quoted ≡ grants b → Good g r b
     quoted_path b e = good g r b (demand.0 b e)
@@ -196,14 +209,10 @@ module _ (w : List ℕ) (input : LoadInput) (work path work' path' : List ℕ) (
 
     -- past its checks a request is refused exactly when neither problem has a solution
     pub quote_exactly : Passes quoting_rules → IsRefused quoted ↔ Unsolvable g r
-    quote_exactly past =
-        let said = demand.exactly.0 past in
-        (λ e k far. (λ p h. said.0 e (k, far, (p, inl h)), λ p h. said.0 e (k, far, (p, inr h))), λ none. said.1 (unsolvable g r none))
+    quote_exactly past = exactly_so g r quoted (demand.exactly.0 past)
 
     pub admission_exactly : Passes admission_rules → IsRefused admitted ↔ Unsolvable g' r'
-    admission_exactly past =
-        let said = demand.exactly.1.0 past in
-        (λ e k far. (λ p h. said.0 e (k, far, (p, inl h)), λ p h. said.0 e (k, far, (p, inr h))), λ none. said.1 (unsolvable g' r' none))
+    admission_exactly past = exactly_so g' r' admitted (demand.exactly.1.0 past)
 
     -- a grant is a best path of its problem, with its own sums
     pub quote_granted : (b : PathGrant) → quoted ≡ grants b → Grant g r b

@@ -1,14 +1,15 @@
--- Refusal 12: from a loaded area, admissions of the circuits 1 to 64 are all granted, and one more is refused with 12.
+-- Refusal 12: from a loaded area, admissions of the circuits 1 to 64 are all granted, and one more is refused with 12, by itself and
+-- as a job.
 -- To compute 64 admissions takes minutes; so each is shown to be granted by what the area holds before it: one unit of
 -- the only link for each circuit.
 -- Assumes nothing.
 use Prim.Native.Nat.{ℕ, zero, suc, ◌+◌, ◌-◌, ◌≤◌, ◌<◌}
 use mathlib.Core.Path.{◌≡◌, refl, sym, ap, ◌∙◌, subst}
-use mathlib.Core.Bool.{true, false}
+use mathlib.Core.Bool.{Bool, true, false}
 use mathlib.Core.List.{List, [], ◌∷◌}
 use native.Mathlib.Omega.{arith}
 use borrow.Author.Tests.{le-leb, ne_eqb}
-use lib.ListN.{length, get_or}
+use lib.ListN.{length, get_or, replicate}
 use Rattle.network.specs.Lists.{All}
 use Rattle.network.specs.Loops.{iter, first}
 use Rattle.network.specs.NodeSet.{member, inserted}
@@ -39,15 +40,18 @@ use Rattle.area.proofs.Loads.{accepted_station, accepted_formed}
 use Rattle.area.proofs.ReadCases.{links_few}
 use Rattle.rules.specs.Requests.{request_fits}
 use Rattle.area.specs.Refusals.{refuses, grants}
+use Rattle.area.specs.Checks.{◌unless◌, checked}
 use Rattle.rules.specs.Replies.{PathReply, granting, answer_of, path_after, reply_of}
 use Rattle.rules.specs.Calls.{request_checked, number_checked, searched, admission, booked}
 use Rattle.rules.specs.Meaning.{books_in}
+use Rattle.rules.specs.Jobs.{jobs_in}
+use Rattle.rules.specs.AdmitJobs.{singly, job_list_checks, admit_jobs}
 use Rattle.rules.proofs.Facts.{count_is}
 use Rattle.rules.proofs.Bookings.{admitted_formed}
 use Rattle.rules.proofs.Depends.{choice_depends}
 use Rattle.rules.proofs.CallCases.{request_passes, number_passes, fails_12, number_refused, admission_passed}
 use Rattle.ledger.specs.Entries.{admitting}
-use Rattle.ledger.specs.History.{Lending, Given, of_request, path_given, reply_to, area_after, answers, area_at_end, arranged}
+use Rattle.ledger.specs.History.{Lending, Given, measured, of_request, path_given, reply_to, area_after, answers, area_at_end, arranged}
 use Rattle.cases.specs.Document01.{blank}
 use Rattle.instances.specs.Areas.{circuit, two_nodes, circuits_to, filled}
 
@@ -190,7 +194,7 @@ module _ (work path : List ℕ) (memory : 16384 ≤ length work) (buffer : 31 �
   calls k zero = []
   calls k (suc n) = call (suc k) ∷ calls (suc k) n
 
-  after : (k : ℕ) → k < 64 → Reached k → area_after (filled k) (call (suc k)) ≡ filled (suc k)
+  after : (k : ℕ) → k < 64 → Reached k → area_after (filled k) (measured (call (suc k))) ≡ filled (suc k)
   unfolding filled booked
   after k low here =
       ap (booked (filled k) (suc k) 1) (next_granted (length work) (length path) memory buffer k here low)
@@ -223,8 +227,21 @@ module _ (work path : List ℕ) (memory : 16384 ≤ length work) (buffer : 31 �
   all_granted = granted_all 0 64 (omega arith)
 
   -- and after them circuit 65 is refused with 12
-  pub then_twelve : reply_to (area_at_end (area_loaded blank two_nodes) (calls 0 64)) (call 65) ≡ refuses 12
+  pub then_twelve : reply_to (area_at_end (area_loaded blank two_nodes) (calls 0 64)) (measured (call 65)) ≡ refuses 12
   unfolding filled
   then_twelve =
-      ap (λ (w : List ℕ). reply_to w (call 65)) (booked_all 0 64 (omega arith))
+      ap (λ (w : List ℕ). reply_to w (measured (call 65))) (booked_all 0 64 (omega arith))
       ∙ sixty_fifth (length work) (length path) memory buffer 64 (reached 64 (omega arith)) refl
+
+-- so is the job of circuit 65 where jobs come in one call, which is granted
+abbrev pub job : List ℕ
+job = 65 ∷ 0 ∷ 1 ∷ 1 ∷ 8 ∷ 20 ∷ 8 ∷ []
+
+pub job_twelve : admit_jobs (filled 64) 16384 job 36 ≡ grants (record { job = record { number = 65; request = asked }; reply = refuses 12 } ∷ [])
+unfolding admit_jobs singly
+job_twelve =
+    let here : Reached 64 = reached (replicate 16384 0) (replicate 31 0) (omega arith) (omega arith) 64 (omega arith) in
+    ap (λ (ok : Bool). checked refuses ((5 unless ok) ∷ job_list_checks 16384 job 36) (grants (singly (filled 64) 16384 (jobs_in job))))
+    (formed_test _ here.formed)
+    ∙ ap (λ (a : PathReply). grants (record { job = record { number = 65; request = asked }; reply = a } ∷ []))
+    (sixty_fifth 16384 31 (omega arith) (omega arith) 64 here refl)

@@ -21,5 +21,7 @@ pub mod Figures
 pub mod Meanings
 pub mod Refusals
 pub mod Demands
+pub mod JobDemands
 pub mod LinkFiles
 pub mod Classes
+pub mod Jobs

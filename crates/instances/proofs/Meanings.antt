@@ -1,13 +1,15 @@
 -- What the contracts' clauses `means` give a caller, spelled out, each part taken from the clause alone: the words, the answer
 -- and what is left are any, so a clause that said less would not give it.
 -- Assumes nothing.
-use Prim.Native.Nat.{ℕ, ◌+◌, ◌≤◌, ◌<◌}
-use mathlib.Core.Path.{◌≡◌}
+use Prim.Native.Nat.{ℕ, ◌+◌, ◌*◌, ◌/◌, ◌≤◌, ◌<◌}
+use mathlib.Core.Path.{◌≡◌, refl, sym, ap, ◌∙◌, subst}
 use mathlib.Core.Bool.{false, true≢false}
-use mathlib.Core.List.{List, [], ◌∷◌, ◌++◌}
+use mathlib.Core.List.{List, [], ◌∷◌, ◌++◌, map}
 use native.Mathlib.Omega.{arith}
-use lib.ListN.{length, get_or, drop}
+use lib.ListN.{length, get_or, drop, replicate, length-map}
 use Rattle.network.specs.Lists.{memb}
+use Rattle.network.specs.Reduce.{problem_number}
+use Rattle.network.proofs.Listed.{from_length}
 use Rattle.network.specs.Net.{Net}
 use Rattle.network.specs.declared.Request.{Request}
 use Rattle.network.specs.declared.Grant.{Grant as Numbers}
@@ -23,6 +25,9 @@ use Rattle.area.specs.Reads.{count_of, buffer_after, list_rules, ListMeans}
 use Rattle.rules.specs.Replies.{PathGrant, PathReply, answer_of, path_after}
 use Rattle.rules.specs.Allowed.{Grant, search_rules, number_rules}
 use Rattle.rules.specs.Meaning.{books_in, quote_rules, net_for, Quoted, Admitted, AreaBooked, QuoteMeans, AdmissionMeans, ReleaseMeans}
+use Rattle.rules.specs.declared.Job.{Job}
+use Rattle.rules.specs.Jobs.{job_at, job_count, jobs_in, WholeJobs}
+use Rattle.rules.specs.AdmitJobs.{JobReply, job_answer, job_answers, JobsReply, jobs_answered, OneForEach, Singly, AreaJobs, JobsMean}
 use Rattle.instances.proofs.Areas.{seven, eight}
 
 -- what a caller knows of a granted path: no rule applied, it is a best one of its problem, the numbers are its own, and it
@@ -108,6 +113,67 @@ module _ (w : List ℕ) (c : ℕ) (w' : List ℕ) where
   pub release_granted : ReleaseMeans w c (grants tt) w' → Passes releasing_rules × OthersHeld
   unfolding books
   release_granted h = (h.allowed.0, (h.area.holds, h.area.formed, h.area.untouched))
+
+-- ---- all jobs in one call, with the job list `words` and the answer buffer l
+module _ (w : List ℕ) (work : ℕ) (words l l' w' : List ℕ) where
+  abbrev opening_rules : List Rule
+  opening_rules =
+      (5 when (WellFormed w → ⊥)) ∷ (6 when work < 16384) ∷ (23 when (WholeJobs words → ⊥)) ∷ (24 when length l < 36 * (length words / 7)) ∷ []
+
+  -- refused: neither the answer buffer nor the area has changed
+  pub jobs_refused : (k : ℕ) → JobsMean w work words l (refuses k) l' w' → FirstApplies opening_rules k × (l' ≡ l) × (w' ≡ w)
+  unfolding jobs_answered
+  jobs_refused k h = go h.reply h.allowed h.answer h.answers h.area
+    where
+      go : (a : JobsReply) → Answered (OneForEach words) opening_rules a → refuses k ≡ count_of a → l' ≡ jobs_answered a l → AreaJobs w work a w'
+          → FirstApplies opening_rules k × (l' ≡ l) × (w' ≡ w)
+      go (refuses j) allowed e answers area = let same : j ≡ k = cc in (rw (← same) allowed, answers, area)
+      go (grants rs) allowed e answers area = absurd (zero_one cc)
+
+  -- granted: no rule applied, there is a reply to each job of the list, the answers to them stand in the first words of the buffer,
+  -- where the others keep theirs, and the replies are those of admissions one after another
+  abbrev JobsGiven : ℕ → List JobReply → Type 0
+  JobsGiven n rs =
+      Passes opening_rules
+      × (map (λ (a : JobReply). a.job) rs ≡ jobs_in words)
+      × (n ≡ length rs)
+      × (l' ≡ job_answers rs ++ drop (36 * length rs) l)
+      × Singly w work rs w'
+
+  pub jobs_granted : (n : ℕ) → JobsMean w work words l (grants n) l' w' → (rs : List JobReply) × JobsGiven n rs
+  unfolding jobs_answered
+  jobs_granted n h = go h.reply h.allowed h.answer h.answers h.area
+    where
+      go : (a : JobsReply) → Answered (OneForEach words) opening_rules a → grants n ≡ count_of a → l' ≡ jobs_answered a l → AreaJobs w work a w'
+          → (rs : List JobReply) × JobsGiven n rs
+      go (refuses j) allowed e answers area = absurd (zero_one cc)
+      go (grants rs) allowed e answers area = (rs, (allowed.0, allowed.1, cc, answers, area))
+
+  -- so it gives as many as the list has jobs
+  pub jobs_counted : (n : ℕ) → JobsMean w work words l (grants n) l' w' → n ≡ length words / 7
+  jobs_counted n h =
+      let given = jobs_granted n h in
+      let rs : List JobReply = given.0 in
+      given.1.2 ∙ sym (length-map rs (λ (a : JobReply). a.job)) ∙ ap (λ (js : List Job). length js) given.1.1 ∙ from_length (job_at words) 0 (job_count words)
+
+  -- of two jobs, on the area w and on the area v that the first leaves: each is admitted by the rules there, and answered in 36 words
+  pub two_admitted : (a b : JobReply) → Singly w work (a ∷ b ∷ []) w'
+      → (v : List ℕ) × Admitted w work 31 a.job.number a.job.request a.reply × AreaBooked w a.job.number a.job.request.terms.units a.reply v
+      × Admitted v work 31 b.job.number b.job.request b.reply
+      × AreaBooked v b.job.number b.job.request.terms.units b.reply w'
+  two_admitted a b h =
+      (h.1.0, h.0, h.1.1, h.1.2.0, subst (AreaBooked h.1.0 b.job.number b.job.request.terms.units b.reply) (sym h.1.2.1.2) h.1.2.1.1)
+
+  -- and the words of a job's answer: the refusal's number and zeros, or the four numbers and the path
+  pub refusal_words : (k : ℕ) (j : Job) → job_answer (record { job = j; reply = refuses k }) ≡ k ∷ replicate 35 0
+  unfolding path_after
+  refusal_words k j = refl
+
+  pub grant_words : (g : PathGrant) (j : Job)
+      → job_answer (record { job = j; reply = grants g })
+      ≡ 0 ∷ problem_number g.problem ∷ g.delay ∷ g.cost ∷ length g.path ∷ g.path ++ drop (length g.path) (replicate 31 0)
+  unfolding path_after
+  grant_words g j = refl
 
 -- ---- a listing into the buffer l
 module _ (w l l' : List ℕ) where

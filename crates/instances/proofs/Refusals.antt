@@ -57,16 +57,16 @@ granted_three = ((λ h. h, tt), refl)
 pub not_four : Answered (λ (n : ℕ). n ≡ 3) ((6 when ⊥) ∷ []) (grants 4) → ⊥
 not_four h = omega (arith, h.1)
 
--- ---- document 01's numbers of the code's refusals: 1 to 22, each once
+-- ---- document 01's numbers of the code's refusals: 1 to 24, each once
 abbrev refusals : List Refusal
 refusals =
     why.AreaShort ∷ why.NodeCount ∷ why.WordCount ∷ why.LinkRange ∷ why.NotWellFormed ∷ why.WorkShort ∷ why.PathShort
     ∷ why.RequestRange ∷ why.NoPath ∷ why.NoSolution ∷ why.CircuitNumber ∷ why.CircuitsFull ∷ why.NotHeld ∷ why.NumbersShort
     ∷ why.NoSuchLink ∷ why.NoSuchClass ∷ why.NotSigned ∷ why.FileLength ∷ why.TableShort ∷ why.ClassWords ∷ why.ClassRange
-    ∷ why.HoldRange ∷ []
+    ∷ why.HoldRange ∷ why.JobWords ∷ why.AnswersShort ∷ []
 
 pub numbers : map number refusals
-    ≡ 1 ∷ 2 ∷ 3 ∷ 4 ∷ 5 ∷ 6 ∷ 7 ∷ 8 ∷ 9 ∷ 10 ∷ 11 ∷ 12 ∷ 13 ∷ 14 ∷ 15 ∷ 16 ∷ 17 ∷ 18 ∷ 19 ∷ 20 ∷ 21 ∷ 22 ∷ []
+    ≡ 1 ∷ 2 ∷ 3 ∷ 4 ∷ 5 ∷ 6 ∷ 7 ∷ 8 ∷ 9 ∷ 10 ∷ 11 ∷ 12 ∷ 13 ∷ 14 ∷ 15 ∷ 16 ∷ 17 ∷ 18 ∷ 19 ∷ 20 ∷ 21 ∷ 22 ∷ 23 ∷ 24 ∷ []
 numbers = refl
 
 -- so the number tells the refusal: no two have one number
@@ -96,6 +96,8 @@ again why.TableShort = refl
 again why.ClassWords = refl
 again why.ClassRange = refl
 again why.HoldRange = refl
+again why.JobWords = refl
+again why.AnswersShort = refl
 
 pub number_tells : (e f : Refusal) → number e ≡ number f → e ≡ f
 number_tells e f same = sym (again e) ∙ ap with_number same ∙ again f

@@ -17,10 +17,12 @@ use Rattle.area.specs.Refusals.{Rule, ◌when◌, Reply, refuses, grants, Answer
 use Rattle.area.specs.Formed.{WellFormed}
 use Rattle.area.specs.Checks.{Check, first_failing, unless_refused, checked}
 use Rattle.area.specs.Load.{load_checks, loaded, load_answer, area_loaded}
-use Rattle.area.specs.Reads.{list_checks, list_answer, listed, free_checks, free_answer}
+use Rattle.area.specs.Reads.{count_of, list_checks, list_answer, listed, free_checks, free_answer}
 use Rattle.area.proofs.Refusals.{numbers_of, first_among}
 use Rattle.rules.specs.Replies.{PathGrant, PathReply, answer_of, path_after, ReleaseReply}
 use Rattle.rules.specs.Calls as calls
+use Rattle.rules.specs.AdmitJobs.{JobsReply, admit_jobs, jobs_booked, jobs_answered, jobs_rules, OneForEach}
+use Rattle.rules.proofs.Jobs.{jobs_means}
 use Rattle.rules.specs.Classes.{table_checks, class_checks, check_answer, class_answer}
 use Rattle.rules.specs.Allowed.{number_rules, release_rules, search_rules}
 use Rattle.rules.specs.Meaning.{books_in, quote_rules, net_for}
@@ -73,6 +75,18 @@ unfolding answer_of
 by_rules G rs Kept keeps (refuses k) h = inr (k, first_among rs k h, refl, keeps k)
 by_rules G rs Kept keeps (grants b) h = inl (_, refl)
 
+-- and what the reply for all jobs says
+jobs_decided : (w : List ℕ) (work : ℕ) (words l : List ℕ)
+    → Decided (5 ∷ 6 ∷ 23 ∷ 24 ∷ []) ((jobs_booked w (admit_jobs w work words (length l)) ≡ w) × (jobs_answered (admit_jobs w work words (length l)) l ≡ l))
+    (count_of (admit_jobs w work words (length l)))
+unfolding jobs_booked jobs_answered
+jobs_decided w work words l = go (admit_jobs w work words (length l)) (jobs_means w work words (length l))
+  where
+    go : (a : JobsReply) → Answered (OneForEach words) (jobs_rules w work words (length l)) a
+        → Decided (5 ∷ 6 ∷ 23 ∷ 24 ∷ []) ((jobs_booked w a ≡ w) × (jobs_answered a l ≡ l)) (count_of a)
+    go (refuses k) h = inr (k, first_among (jobs_rules w work words (length l)) k h, refl, (refl, refl))
+    go (grants rs) h = inl (length rs, refl)
+
 -- ---- the calls
 pub every_call_decided : FirstDemand
 unfolding load_answer area_loaded list_answer listed free_answer check_answer class_answer read_answer table_read path_after calls.booked calls.cleared
@@ -95,6 +109,8 @@ every_call_decided =
           (λ k. refl)
           (calls.release w c)
           (release_means w c);
+      jobs = λ w work words l.
+          jobs_decided w work words l;
       list = λ w l.
           by_checks (list_checks w (length l)) _ l _;
       free_units = λ w i.

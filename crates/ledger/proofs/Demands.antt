@@ -1,10 +1,10 @@
--- The three demands. The first on any words and numbers at all; the third, and beside it the second, for all numbers and every area that Load accepts, and every list of
--- admissions, releases and quotes, refused ones included, with work memory and path buffer of any length and contents at
--- each call. specs/Demand.antt says what is claimed.
+-- The three demands. The first on any words and numbers at all; the third, and beside it the second, for all numbers and every area
+-- that Load accepts, and every list of admissions, releases, quotes and calls for all jobs, refused ones included, with work memory,
+-- path buffer and answer buffer of any length and contents at each call. specs/Demand.antt says what is claimed.
 -- Assumes nothing.
 use Prim.Native.Nat.{ℕ}
 use mathlib.Core.Path.{◌≡◌, sym, ap, ◌∙◌}
-use mathlib.Core.List.{List, ◌++◌}
+use mathlib.Core.List.{List, [], ◌∷◌, ◌++◌}
 use mathlib.Core.Logic.{◌↔◌}
 use Rattle.network.specs.declared.Request.{Request}
 use Rattle.area.specs.Station.{Station, held_words}
@@ -16,20 +16,27 @@ use Rattle.area.proofs.SameWords.{same_words}
 use Rattle.area.specs.Refusals.{grants}
 use Rattle.area.specs.Load.{LoadInput, load_answer, area_loaded}
 use Rattle.area.proofs.Loads.{accepted_station, accepted_formed}
-use Rattle.rules.specs.Replies.{PathGrant}
+use Rattle.rules.specs.Replies.{PathGrant, PathReply}
 use Rattle.rules.specs.Calls.{quote, admission}
+use Rattle.rules.specs.declared.Job.{Job}
+use Rattle.rules.specs.Jobs.{jobs_in}
+use Rattle.rules.specs.AdmitJobs.{JobReply, admit_job, job_booked, singly, admit_jobs}
+use Rattle.rules.proofs.Jobs.{jobs_granted}
+use Rattle.network.specs.Limits.{path_words}
 use Rattle.rules.specs.Allowed.{number_rules, search_rules}
 use Rattle.rules.specs.Meaning.{books_in, net_for}
 use Rattle.rules.proofs.Meaning.{quote_means, admission_means}
 use Rattle.ledger.specs.Entries.{Call, ReplyTo, opened, checks}
 use Rattle.ledger.specs.History.{Lending, history, bookings}
-use Rattle.ledger.specs.Sentences.{AtRequest, OfRequest, Feasible, ZeroBound}
+use Rattle.ledger.specs.Sentences.{AtRequest, OfRequest, Feasible, ZeroBound, EachJob}
 use Rattle.ledger.specs.Demand.{FirstDemand, PathsGranted, Throughout, SecondDemand, ThirdDemand}
 use Rattle.ledger.proofs.Decisions.{every_call_decided}
 use Rattle.ledger.proofs.Steps.{Says}
 use Rattle.ledger.proofs.Given.{answers_given}
 use Rattle.ledger.proofs.Places.{refused_as, not_five, answered, exactly_refused, enough_granted, zero_refused, delay_granted, paths_granted, paths_past_five}
-use Rattle.ledger.proofs.Histories.{Follows, followed, ends_follow, at_every, Alike, struck_answers, struck_ends}
+use Rattle.ledger.proofs.Follows.{Follows}
+use Rattle.ledger.proofs.Alike.{Alike}
+use Rattle.ledger.proofs.Histories.{followed, ends_follow, at_every, struck_answers, struck_ends}
 
 -- ---- the first demand
 pub first_demand : FirstDemand
@@ -107,3 +114,15 @@ module _ (w : List ℕ) (work path : ℕ) (r : Request) where
 
   pub any_admission : (c : ℕ) → PathsGranted (net_for w r) r (admission w work path c r)
   any_admission c = paths_past_five w work path r (number_rules (books_in w) c ++ search_rules (net_for w r) r) _ (admission_means w work path r c)
+
+-- and of all jobs in one call, each where it comes
+abbrev PathsOf : List ℕ → Request → PathReply → Type 0
+PathsOf v r a = PathsGranted (net_for v r) r a
+
+each_granted : (w : List ℕ) (work : ℕ) (js : List Job) → EachJob PathsOf w (singly w work js)
+unfolding singly
+each_granted w work [] = tt
+each_granted w work (j ∷ js) = (any_admission w work path_words j.request j.number, each_granted (job_booked w (admit_job w work j)) work js)
+
+pub any_jobs : (w : List ℕ) (work : ℕ) (jobs : List ℕ) (answers : ℕ) (rs : List JobReply) → admit_jobs w work jobs answers ≡ grants rs → EachJob PathsOf w rs
+any_jobs w work jobs answers rs e = rw (jobs_granted w work jobs answers rs e).0 (each_granted w work (jobs_in jobs))

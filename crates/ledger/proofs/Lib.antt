@@ -1,5 +1,7 @@
 mod Searches
 mod Steps
+mod Follows
+mod Alike
 mod Places
 mod Given
 mod Histories

@@ -18,7 +18,7 @@ use Rattle.rules.specs.Allowed.{Grant, request_rules, number_rules, search_rules
 use Rattle.rules.specs.Meaning.{books_in, quote_rules, net_for}
 use Rattle.rules.proofs.Delays.{granted_delay}
 use Rattle.rules.proofs.Meaning.{request_past}
-use Rattle.ledger.specs.Entries.{Call, quoting, admitting, releasing, Granting, ReplyTo, told, Ledger, seen, checks, rules, Refuses, Grants, moved}
+use Rattle.ledger.specs.Entries.{Call, quoting, admitting, releasing, admitting_jobs, Granting, ReplyTo, told, Ledger, seen, checks, rules, Refuses, Grants, moved}
 use Rattle.ledger.specs.Sentences.{Solvable, Overqualifies, Feasible, ZeroBound, AtRequest, OfRequest}
 use Rattle.ledger.specs.Demand.{GrantedPath, PathsGranted}
 use Rattle.ledger.proofs.Searches.{search_exactly, search_enough, zero_exactly, grant_path_granted}
@@ -32,6 +32,7 @@ five_not_among : (o : Books) (q : Call ℕ) → memb 5 (numbers_of (rules o q)) 
 five_not_among o (quoting work path r) = refl
 five_not_among o (admitting work path c r) = refl
 five_not_among o (releasing c) = refl
+five_not_among o (admitting_jobs work jobs answers) = refl
 
 pub not_five : (o : Books) (q : Call ℕ) (a : ReplyTo q) → Says o q a → a ≡ refuses 5 → ⊥
 not_five o q a h e =
@@ -47,6 +48,7 @@ refused_alone l (quoting work path r) k h = refl
 refused_alone l (admitting work path c r) k h = refl
 refused_alone l (releasing c) k (inl (lacks, e)) = unheld_stays l c lacks
 refused_alone l (releasing c) k (inr (m, h)) = absurd h
+refused_alone l (admitting_jobs work jobs answers) k h = refl
 
 -- ---- past the checks
 pub exactly_refused : (o : Books) (q : Call ℕ) (a : ReplyTo q) → Says o q a → Passes (checks o q)
@@ -55,6 +57,7 @@ exactly_refused o (quoting work path r) a h n = search_exactly (seen o r) r a (p
 exactly_refused o (admitting work path c r) a h n =
     search_exactly (seen o r) r a (past (Grant (seen o r) r) (checks o (admitting work path c r)) (search_rules (seen o r) r) a n h)
 exactly_refused o (releasing c) a h n = tt
+exactly_refused o (admitting_jobs work jobs answers) a h n = tt
 
 -- past rule 8, the third, a request fits
 module _ (o : Books) (work path : ℕ) (r : Request) (rs : List Rule) (n : Passes (request_rules o work path r ++ rs)) where
@@ -77,6 +80,7 @@ enough_granted o (quoting work path r) a h n =
 enough_granted o (admitting work path c r) a h n =
     enough o work path r (number_rules o c) n a (past (Grant (seen o r) r) (checks o (admitting work path c r)) (search_rules (seen o r) r) a n h)
 enough_granted o (releasing c) a h n = tt
+enough_granted o (admitting_jobs work jobs answers) a h n = tt
 
 pub zero_refused : (o : Books) (q : Call ℕ) (a : ReplyTo q) → Says o q a → Passes (checks o q)
     → OfRequest (λ g r b. ZeroBound r → IsRefused b ↔ (Feasible g r → ⊥)) o q a
@@ -85,6 +89,7 @@ zero_refused o (quoting work path r) a h n = λ zero.
 zero_refused o (admitting work path c r) a h n = λ zero.
     exactly o work path r (number_rules o c) n zero a (past (Grant (seen o r) r) (checks o (admitting work path c r)) (search_rules (seen o r) r) a n h)
 zero_refused o (releasing c) a h n = tt
+zero_refused o (admitting_jobs work jobs answers) a h n = tt
 
 -- ---- a grant's delay
 pub delay_granted : (o : Books) (q : Call ℕ) (a : ReplyTo q) → Says o q a
@@ -94,6 +99,7 @@ delay_granted o (quoting work path r) a h = λ g e.
 delay_granted o (admitting work path c r) a h = λ g e.
     granted_delay o r g (subst (Answered (Grant (seen o r) r) (rules o (admitting work path c r))) e h).1
 delay_granted o (releasing c) a h = tt
+delay_granted o (admitting_jobs work jobs answers) a h = tt
 
 -- ---- granted paths
 -- by the rules of a request, whatever rules follow
@@ -108,6 +114,7 @@ pub paths_granted : (o : Books) (q : Call ℕ) (a : ReplyTo q) → Says o q a �
 paths_granted o (quoting work path r) a h = paths_past o work path r (search_rules (seen o r) r) a h
 paths_granted o (admitting work path c r) a h = paths_past o work path r (number_rules o c ++ search_rules (seen o r) r) a h
 paths_granted o (releasing c) a h = tt
+paths_granted o (admitting_jobs work jobs answers) a h = tt
 
 -- the same of an area, where 5 is the first rule
 pub paths_past_five : (w : List ℕ) (work path : ℕ) (r : Request) (rs : List Rule) (a : PathReply)

@@ -13,13 +13,14 @@ use Rattle.area.specs.Station.{held_words}
 use Rattle.area.specs.Order.{by_number}
 use Rattle.area.specs.Refusals.{Passes, Reply, refuses, grants, IsRefused, IsGranted}
 use Rattle.area.specs.Load.{LoadInput, load_answer, area_loaded}
-use Rattle.area.specs.Reads.{list_answer, listed, free_answer}
+use Rattle.area.specs.Reads.{count_of, list_answer, listed, free_answer}
 use Rattle.rules.specs.Replies.{PathGrant, PathReply, answer_of, path_after}
 use Rattle.rules.specs.Calls as calls
+use Rattle.rules.specs.AdmitJobs.{admit_jobs, jobs_booked, jobs_answered}
 use Rattle.rules.specs.Classes.{check_answer, class_answer}
 use Rattle.link_format.specs.Reading.{read_answer, table_read}
 use Rattle.ledger.specs.Entries.{Call, Granting, ReplyTo, opened, checks, Refuses, Grants}
-use Rattle.ledger.specs.History.{Lending, given_by, Event, history, answers, area_at_end, bookings, at_end, Struck, remaining}
+use Rattle.ledger.specs.History.{Lending, given_by, Event, history, calls_made, answers, area_at_end, bookings, at_end, Struck, remaining}
 use Rattle.ledger.specs.Sentences.{Solvable, Overqualifies, AtEvery, OfRequest}
 
 -- ---- the first demand
@@ -29,10 +30,10 @@ use Rattle.ledger.specs.Sentences.{Solvable, Overqualifies, AtEvery, OfRequest}
 abbrev pub Decided : {A : Type 0} → List ℕ → Type 0 → Reply A → Type 0
 Decided numbers Kept a = IsGranted a ⊎ ((k : ℕ) × (memb k numbers ≡ true) × (a ≡ refuses k) × Kept)
 
--- Each call by the definitions that its contract cites, on any words w, l and t of its area, its path buffer or list and
--- its table, and any numbers. The numbers are those that the papers give for the call, in their order. A call that is lent
--- words to read alone keeps them by its type: a quote, a listing and free units the area, the check of a class table and a class
--- the table's rows.
+-- Each call by the definitions that its contract cites, on any words w, l and t of its area, its path buffer, list or answer
+-- buffer, and its table, and any numbers. The numbers are those that the papers give for the call, in their order. A call that is
+-- lent words to read alone keeps them by its type: a quote, a listing and free units the area, all jobs in one call the job list,
+-- the check of a class table and a class the table's rows.
 pub record FirstDemand : Type 0 where
   pub load : (w : List ℕ) (input : LoadInput)
       → Decided (1 ∷ 2 ∷ 3 ∷ 4 ∷ 22 ∷ []) (area_loaded w input ≡ w) (load_answer w input)
@@ -46,6 +47,9 @@ pub record FirstDemand : Type 0 where
   pub release : (w : List ℕ) (c : ℕ)
       → let a = calls.release w c in
       Decided (5 ∷ 13 ∷ []) (calls.cleared w c a ≡ w) a
+  pub jobs : (w : List ℕ) (work : ℕ) (words l : List ℕ)
+      → let a = admit_jobs w work words (length l) in
+      Decided (5 ∷ 6 ∷ 23 ∷ 24 ∷ []) ((jobs_booked w a ≡ w) × (jobs_answered a l ≡ l)) (count_of a)
   pub list : (w l : List ℕ)
       → Decided (5 ∷ 14 ∷ []) (listed w l ≡ l) (list_answer w (length l))
   pub free_units : (w : List ℕ) (i : ℕ)
@@ -78,7 +82,8 @@ PathsGranted g r a = (b : PathGrant) → a ≡ grants b → GrantedPath g r b
 
 -- ---- the third demand
 -- "One theorem over EVERY list of admissions, releases and quotes from a freshly loaded area": from the area that Load
--- leaves of w, with n, the links and the hold times, the calls cs run one after another, each lent any words.
+-- leaves of w, with n, the links and the hold times, the calls cs run one after another, each lent any words. A call for all jobs
+-- may stand among them (Req 06); where it is granted, each of its jobs is an admission at a place of its own.
 module _ (w : List ℕ) (input : LoadInput) (cs : List Lending) where
   abbrev start : List ℕ
   start = area_loaded w input
@@ -101,7 +106,8 @@ module _ (w : List ℕ) (input : LoadInput) (cs : List Lending) where
     -- "grants answer ... as the ledger says": a best path of its problem, with its own sums
     pub granted : Throughout (λ o q a. (b : Granting q) → a ≡ grants b → Grants o q b)
     -- what each call answers is what its reply says: the numbers, with the path's delay, cost and l, and the path's words
-    pub answered : answers start cs ≡ map (λ (e : Event). given_by e.call e.reply) (history start cs)
+    -- and of all jobs in one call, whose reply has one for each job, their number and their words
+    pub answered : answers start cs ≡ map (λ (e : Event). given_by e.call e.reply) (calls_made start cs)
     -- "and book as the ledger says": after the list, and so after every call, the bookings are exactly the entries, by rising
     -- number
     pub books : bookings (area_at_end start cs) ≡ by_number (at_end (opened input) (history start cs)).held

@@ -7,7 +7,8 @@ use Rattle.network.specs.Reduce.{delay_bound, cost_bound, one, two, WithinBounds
 use Rattle.network.specs.declared.Request.{Request}
 use Rattle.area.specs.Books.{Books, books}
 use Rattle.rules.specs.Replies.{PathReply}
-use Rattle.ledger.specs.Entries.{Call, quoting, admitting, releasing, ReplyTo, Ledger, seen}
+use Rattle.rules.specs.AdmitJobs.{JobReply, job_booked}
+use Rattle.ledger.specs.Entries.{Call, quoting, admitting, releasing, admitting_jobs, ReplyTo, Ledger, seen}
 use Rattle.ledger.specs.History.{Event, after}
 
 module _ (g : Net) (r : Request) where
@@ -43,7 +44,13 @@ abbrev pub AtRequest : (Books → Request → PathReply → Type 0) → Books �
 AtRequest P o (quoting work path r) a = P o r a
 AtRequest P o (admitting work path c r) a = P o r a
 AtRequest P o (releasing c) a = Unit
+AtRequest P o (admitting_jobs work jobs answers) a = Unit
 
 -- the same of the network that the request sees, the request and the answer
 abbrev pub OfRequest : (Net → Request → PathReply → Type 0) → Books → (q : Call ℕ) → ReplyTo q → Type 0
 OfRequest P = AtRequest (λ o r a. P (seen o r) r a)
+
+-- P holds of each job's reply in one call: of the area where it comes, the request and the reply
+abbrev pub EachJob : (List ℕ → Request → PathReply → Type 0) → List ℕ → List JobReply → Type 0
+EachJob P w [] = Unit
+EachJob P w (a ∷ rs) = P w a.job.request a.reply × EachJob P (job_booked w a) rs

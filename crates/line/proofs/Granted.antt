@@ -1,6 +1,6 @@
 -- What a C caller relies on: a call gives 0 only where it was granted, and else the number of a refusal that left the answer
 -- array as it was. A refusal by a call's checks has a number over 0 by the definition of `checked`, and every rule by which
--- quote, admission, release, listing, the check of a class table and the class call are refused has one. That a grant gives 0
+-- quote, admission, release, all jobs in one call, listing, the check of a class table and the class call are refused has one. That a grant gives 0
 -- is how the codes are defined.
 -- Assumes nothing.
 use Prim.Native.Nat.{ℕ, zero, suc, ◌<◌}
@@ -26,6 +26,7 @@ use Rattle.area.specs.Checks.{Check, first_failing, unless_refused, checked}
 use Rattle.area.specs.Load.{LoadInput, load_checks, load_answer}
 use Rattle.area.specs.Reads.{count_of, list_rules, ListMeans, free_checks, free_answer}
 use Rattle.rules.specs.ClassTable.{ClassTable}
+use Rattle.rules.specs.AdmitJobs.{OneForEach, jobs_rules, JobsMean}
 use Rattle.rules.specs.Classes.{table_rules, class_rules, CheckMeans, ClassMeans}
 use Rattle.rules.specs.Replies.{PathGrant, PathReply, answer_of}
 use Rattle.rules.specs.Allowed.{Grant, search_rules, number_rules, release_rules}
@@ -33,7 +34,7 @@ use Rattle.rules.specs.Meaning.{books_in, quote_rules, net_for, QuoteMeans, Admi
 use Rattle.link_format.specs.declared.Size.{Size}
 use Rattle.link_format.specs.Reading.{read_checks, read_answer, links_in as file_links, nodes_in}
 use Rattle.line.specs.Codes.{code, words_after, grant_words, value_words, terms_words}
-use Rattle.line.specs.Meaning.{Tells, TellsWords, QuoteTells, AdmissionTells, ReleaseTells, ListTells, CheckTells, ClassTells}
+use Rattle.line.specs.Meaning.{Tells, TellsWords, QuoteTells, AdmissionTells, ReleaseTells, JobsTell, ListTells, CheckTells, ClassTells}
 
 -- ---- a list of checks
 -- a refusal's code is its number, which is over 0: the code 0 comes past the checks
@@ -155,13 +156,27 @@ module _ (w : List ℕ) (c : ℕ) (w' : List ℕ) where
   pub release_refused : (k : ℕ) → 0 < k → ReleaseTells w c k w' → ReleaseMeans w c (refuses k) w'
   release_refused = refused_tells _
 
+-- nor does a count of what such rules grant
+count_over : {A : Type 0} (G : List A → Type 0) (rs : List Rule) → over_zero rs ≡ true → (a : Reply (List A)) → Answered G rs a
+    → (k : ℕ) → refuses k ≡ count_of a
+    → 0 < k
+count_over G rs over (refuses j) h k e = let same : k ≡ j = cc in omega (arith, refused_over rs over j h, same)
+count_over G rs over (grants l) h k e = absurd (zero_one cc)
+
+module _ (w : List ℕ) (work : ℕ) (words l v l' v' w' : List ℕ) where
+  jobs_over : (k : ℕ) → JobsMean w work words l (refuses k) l' w' → 0 < k
+  jobs_over k h = count_over (OneForEach words) (jobs_rules w work words (length l)) refl h.reply h.allowed k h.answer
+
+  pub jobs_granted : JobsTell w work words l v 0 l' v' w' → (n : ℕ) × JobsMean w work words l (grants n) l' w' × (v' ≡ n ∷ [])
+  unfolding value_words
+  jobs_granted = granted_words _ value_words v v' jobs_over
+
+  pub jobs_refused : (k : ℕ) → 0 < k → JobsTell w work words l v k l' v' w' → JobsMean w work words l (refuses k) l' w' × (v' ≡ v)
+  jobs_refused = refused_words _ value_words v v'
+
 module _ (w l v l' v' : List ℕ) where
   list_over : (k : ℕ) → ListMeans w l (refuses k) l' → 0 < k
-  list_over k h = go h.reply h.allowed h.answer
-    where
-      go : (a : Reply (List ℕ)) → Answered (ListsHeld (station w).held) (list_rules w (length l)) a → refuses k ≡ count_of a → 0 < k
-      go (refuses j) allowed e = let same : k ≡ j = cc in omega (arith, refused_over (list_rules w (length l)) refl j allowed, same)
-      go (grants ns) allowed e = absurd (zero_one cc)
+  list_over k h = count_over (ListsHeld (station w).held) (list_rules w (length l)) refl h.reply h.allowed k h.answer
 
   pub list_granted : ListTells w l v 0 l' v' → (h : ℕ) × ListMeans w l (grants h) l' × (v' ≡ h ∷ [])
   unfolding value_words

@@ -22,7 +22,7 @@ words_after words (grants a) before = words a
 unfoldable pub grant_words : Grant → List ℕ
 grant_words g = problem_number g.problem ∷ g.delay ∷ g.cost ∷ g.links ∷ []
 
--- listing and free units: how many circuits, or the units
+-- listing, free units and all jobs in one call: how many circuits, the units, or how many jobs
 unfoldable pub value_words : ℕ → List ℕ
 value_words v = v ∷ []
 

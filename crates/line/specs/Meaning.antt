@@ -6,6 +6,7 @@ use Rattle.network.specs.declared.Request.{Request}
 use Rattle.area.specs.Refusals.{Reply}
 use Rattle.area.specs.Reads.{ListMeans}
 use Rattle.rules.specs.Meaning.{QuoteMeans, AdmissionMeans, ReleaseMeans}
+use Rattle.rules.specs.AdmitJobs.{JobsMean}
 use Rattle.rules.specs.Classes.{CheckMeans, ClassMeans}
 use Rattle.line.specs.Codes.{code, words_after, grant_words, value_words, terms_words}
 
@@ -22,7 +23,7 @@ pub record TellsWords {A : Type 0} (words : A → List ℕ) (P : Reply A → Typ
   pub is : k ≡ code answer
   pub array : v' ≡ words_after words answer v
 
--- the calls: w, l and v are the area, the path buffer or list and the answer array before, w', l' and v' after
+-- the calls: w, l and v are the area, the path buffer, answer buffer or list and the answer array before, w', l' and v' after
 abbrev pub QuoteTells : List ℕ → ℕ → List ℕ → List ℕ → Request → ℕ → List ℕ → List ℕ → Type 0
 QuoteTells w work l v r k l' v' = TellsWords grant_words (λ said. QuoteMeans w work l r said l') k v v'
 
@@ -31,6 +32,10 @@ AdmissionTells w work l v c r k l' v' w' = TellsWords grant_words (λ said. Admi
 
 abbrev pub ReleaseTells : List ℕ → ℕ → ℕ → List ℕ → Type 0
 ReleaseTells w c k w' = Tells (λ said. ReleaseMeans w c said w') k
+
+-- all jobs in one call, with the job list `words` and the answer buffer l
+abbrev pub JobsTell : List ℕ → ℕ → List ℕ → List ℕ → List ℕ → ℕ → List ℕ → List ℕ → List ℕ → Type 0
+JobsTell w work words l v k l' v' w' = TellsWords value_words (λ said. JobsMean w work words l said l' w') k v v'
 
 abbrev pub ListTells : List ℕ → List ℕ → List ℕ → ℕ → List ℕ → List ℕ → Type 0
 ListTells w l v k l' v' = TellsWords value_words (λ said. ListMeans w l said l') k v v'

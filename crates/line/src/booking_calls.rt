@@ -1,14 +1,16 @@
-// Quote, admission and release for C.
+// Quote, admission, release and all jobs in one call for C.
 ghost use Rattle.std.specs.Prelude.{◌≡◌, length};
 ghost use Rattle.network.specs.Reduce.{asking};
 ghost use Rattle.rules.specs.Replies.{answer_of, path_after};
 ghost use Rattle.rules.specs.Calls.{quote, admission, booked, release, cleared};
-ghost use Rattle.line.specs.Codes.{code, words_after, grant_words};
-ghost use Rattle.line.specs.Meaning.{QuoteTells, AdmissionTells, ReleaseTells};
+ghost use Rattle.rules.specs.AdmitJobs.{admit_jobs, jobs_booked, jobs_answered};
+ghost use Rattle.area.specs.Reads.{count_of};
+ghost use Rattle.line.specs.Codes.{code, words_after, grant_words, value_words};
+ghost use Rattle.line.specs.Meaning.{QuoteTells, AdmissionTells, ReleaseTells, JobsTell};
 
 use crate::told::{code, tell};
-use booking::calls;
 use booking::quote::quote;
+use booking::{calls, jobs};
 use network::{Request, Terms};
 
 // The request of the numbers, in the order in which C gives them.
@@ -91,4 +93,23 @@ pub extern "C" fn line_release(area: &mut [u32], circuit: u32) -> u32
     ensures means { ReleaseTells area.old circuit result area.new }
 {
     code(calls::release(area, circuit))
+}
+
+// 5, 6, 23 and 24; else 0, the number of jobs in `answer`, and 36 words in `answers` for each job; the granted ones' circuits are
+// added to the area. Work memory is open after.
+#[unsafe(no_mangle)]
+pub extern "C" fn line_admit_jobs(
+    area: &mut [u32],
+    work: &mut [u32],
+    jobs: &[u32],
+    answers: &mut [u32],
+    answer: &mut [u32; 1],
+) -> u32
+    ensures code { result ≡ code (count_of (admit_jobs area.old (length work.old) jobs.now (length answers.old))) }
+    ensures answer { answer.new ≡ words_after value_words (count_of (admit_jobs area.old (length work.old) jobs.now (length answers.old))) answer.old }
+    ensures answers { answers.new ≡ jobs_answered (admit_jobs area.old (length work.old) jobs.now (length answers.old)) answers.old }
+    ensures area { area.new ≡ jobs_booked area.old (admit_jobs area.old (length work.old) jobs.now (length answers.old)) }
+    ensures means { JobsTell area.old (length work.old) jobs.now answers.old answer.old result answers.new answer.new area.new }
+{
+    tell(jobs::admit_jobs(area, work, jobs, answers), answer)
 }

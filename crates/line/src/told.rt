@@ -26,7 +26,7 @@ impl Words<4> for Grant {
     }
 }
 
-// A listing's count, or free units.
+// A listing's count, free units, or how many jobs.
 impl Words<1> for u32 {
     ghost use Rattle.line.specs.Codes.{value_words};
 

@@ -6,9 +6,8 @@ use Prim.Native.Nat.{ℕ, ◌≤◌}
 use mathlib.Core.Path.{◌≡◌, refl, sym, ap, ap₂, ◌∙◌, subst}
 use mathlib.Core.Bool.{true}
 use mathlib.Core.List.{List, ◌++◌}
-use native.Mathlib.Nat.{zero-add}
 use native.Mathlib.Omega.{arith}
-use lib.ListN.{length, drop, get_or-append}
+use lib.ListN.{length, drop}
 use Rattle.network.specs.Limits.{most_path_links}
 use Rattle.network.proofs.Tests.{zero_one}
 use Rattle.network.specs.Net.{Net}
@@ -25,7 +24,7 @@ use Rattle.area.specs.Formed.{WellFormed, well_formed}
 use Rattle.area.specs.Held.{place_of}
 use Rattle.area.specs.Moves.{added}
 use Rattle.area.proofs.Formed.{formed_says}
-use Rattle.area.proofs.WordsAt.{words_list}
+use Rattle.area.proofs.WordsAt.{words_front}
 use Rattle.area.specs.Refusals.{Reply, refuses, grants, number, refusal_of, Answered}
 use Rattle.rules.specs.Replies.{PathReply, answer_of, path_after, reply_of, ReleaseReply}
 use Rattle.rules.specs.Requests.{RequestFits, request_fits}
@@ -63,7 +62,7 @@ module _ (w : List ℕ) (c u : ℕ) (g : Numbers) (l : List ℕ) where
   stored (grants h) e =
       let p = h.path in
       let many : g.links ≡ length p = cc in
-      let path : words_at (p ++ drop (length p) l) 0 (length p) ≡ p = words_list (p ++ drop (length p) l) 0 p (λ i low. rw zero-add (get_or-append p (drop (length p) l) 0 i low)) in
+      let path : words_at (p ++ drop (length p) l) 0 (length p) ≡ p = words_front p (drop (length p) l) in
       rw (many, path) refl
 
   -- the same, with the place, the buffer, the count and the part as the code holds them

@@ -10,3 +10,5 @@ pub mod Searching
 pub mod ClassTable
 pub mod Classes
 pub mod SampleClasses
+pub mod Jobs
+pub mod JobCases

@@ -128,7 +128,7 @@ number_past o c = unfailing (number_fits o c) (number_says o c) (number_test o c
 
 module _ (w : List ℕ) where
   -- the test of an area, which every call makes first
-  area_tested : Tests (5 unless well_formed w) (5 when (WellFormed w → ⊥))
+  pub area_tested : Tests (5 unless well_formed w) (5 when (WellFormed w → ⊥))
   area_tested = tests_not 5 (omega arith) (well_formed w) (formed_says w) (formed_test w)
 
   -- each check of a request tests its rule

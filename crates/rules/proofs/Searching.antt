@@ -20,10 +20,11 @@ use Rattle.search.specs.Result.{Ready, Searchable, Alike, outcome, search_answer
 use Rattle.search.proofs.Result.{outcome_depends, totals_depend, ready_searchable}
 use Rattle.area.specs.Layout.{first_link}
 use Rattle.area.specs.Station.{nodes_in, links_in, table_in, station, words_at, cost_of}
-use Rattle.area.specs.Books.{books, net, free, delay_to}
+use Rattle.area.specs.Books.{books, net, delay_to}
 use Rattle.area.specs.Formed.{WellFormed, well_formed, TableFits}
 use Rattle.area.specs.FreeIn.{free_in}
 use Rattle.area.specs.Refusals.{refuses, grants, number, refusal_of}
+use Rattle.area.proofs.ReadCases.{formed_free}
 use Rattle.area.proofs.Formed.{formed_says}
 use Rattle.area.proofs.WordsAt.{words_length}
 use Rattle.area.proofs.Columns.{delay_low}
@@ -67,11 +68,6 @@ module _ (w : List ℕ) (ok : well_formed w ≡ true) (r : Request) {n k : ℕ} 
   unfolding station
   fits = formed.sound.table
 
-  -- a well-formed area's free units
-  free_is : (i : ℕ) → free_in w i ≡ free (station w) i
-  unfolding free_in
-  free_is i = rw ok refl
-
   links_are : links ≡ words_at w first_link (link_words * links_in w)
   unfolding table_in
   links_are = handed.words
@@ -104,7 +100,7 @@ module _ (w : List ℕ) (ok : well_formed w ≡ true) (r : Request) {n k : ℕ} 
         links = handed.count;
         tail = λ i low. rw links_are refl;
         head = λ i low. rw links_are refl;
-        usable = λ i low. handed.flagged i (omega (arith, low, handed.count)) ∙ ap (leb r.terms.units) (free_is i);
+        usable = λ i low. handed.flagged i (omega (arith, low, handed.count)) ∙ ap (leb r.terms.units) (formed_free w ok i);
         delay = λ i low. handed.delayed i (omega (arith, low, handed.count));
         cost = λ i low. handed.priced i (omega (arith, low, handed.count));
       }

@@ -1,4 +1,4 @@
-// A well-formed area. Reading one is the check with which every call on a loaded area begins; it takes any words.
+// A well-formed area. `free_in` is the check with which every call on a loaded area begins; it takes any words.
 ghost use Rattle.std.specs.Prelude.{◌≡◌, true, ℕ, get_or, is_ok, is_some, IfOk, IfErr, IfSome};
 ghost use Rattle.area.specs.declared.refusal.Refusal.TheVariants.{NotWellFormed};
 ghost use Rattle.area.specs.Station.{nodes_in, links_in, held_in, table_in, station};
@@ -14,42 +14,41 @@ use area::Refusal;
 use links::link::Links;
 use network::limits::MOST_LINKS;
 
+// Each link's free units in this area, or 5 where the area is not well formed.
+pub fn free_in(area: &[u32]) -> Result<[u32; MOST_LINKS], Refusal>
+    ensures formed { is_ok result ≡ well_formed area.now }
+    ensures units { IfOk result (λ free. (i : ℕ) → get_or free i 0 ≡ free_in area.now i) }
+    ensures refused { IfErr result (λ e. e ≡ NotWellFormed) }
+{
+    parse(area).ok_or(Refusal::NotWellFormed)
+}
+
+// The same where the area is well formed.
+fn parse(area: &[u32]) -> Option<[u32; MOST_LINKS]>
+    ensures formed { is_some result ≡ well_formed area.now }
+    ensures units { IfSome result (λ free. (i : ℕ) → get_or free i 0 ≡ free_in area.now i) }
+{
+    if area.len() < layout::AREA_WORDS {
+        return None;
+    }
+    let table = Table::read(area)?;
+    let count = area[layout::HELD] as usize;
+    if layout::MOST_CIRCUITS < count {
+        return None;
+    }
+    units::free_units(&table, &Places { area, count })
+}
+
 // The words of a well-formed area, and each link's free units.
 #[derive(Clone, Copy)]
 pub struct Station<'a> {
     pub area: &'a [u32],
-    pub free: [u32; MOST_LINKS],
-    ghost formed: { well_formed area.now ≡ true },
-    ghost units: { (i : ℕ) → get_or free i 0 ≡ free_in area.now i },
+    pub free: &'a [u32; MOST_LINKS],
+    pub ghost formed: { well_formed area.now ≡ true },
+    pub ghost units: { (i : ℕ) → get_or free.now i 0 ≡ free_in area.now i },
 }
 
 impl<'a> Station<'a> {
-    // The station of this area, or 5 where the area is not well formed.
-    pub fn read(area: &'a [u32]) -> Result<Station<'a>, Refusal>
-        ensures formed { is_ok result ≡ well_formed area.now }
-        ensures area { IfOk result (λ s. s.area.now ≡ area.now) }
-        ensures refused { IfErr result (λ e. e ≡ NotWellFormed) }
-    {
-        Station::parse(area).ok_or(Refusal::NotWellFormed)
-    }
-
-    // The station of this area, where the area is well formed.
-    fn parse(area: &'a [u32]) -> Option<Station<'a>>
-        ensures formed { is_some result ≡ well_formed area.now }
-        ensures area { IfSome result (λ s. s.area.now ≡ area.now) }
-    {
-        if area.len() < layout::AREA_WORDS {
-            return None;
-        }
-        let table = Table::read(area)?;
-        let count = area[layout::HELD] as usize;
-        if layout::MOST_CIRCUITS < count {
-            return None;
-        }
-        let free = units::free_units(&table, &Places { area, count })?;
-        Some(Station { area, free })
-    }
-
     // How many nodes there are.
     #[tactic(auto, using(area::proofs::ReadCases::formed_long))]
     pub fn nodes(&self) -> usize

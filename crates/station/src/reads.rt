@@ -5,7 +5,7 @@ ghost use Rattle.area.specs.Held.{number_at};
 ghost use Rattle.area.specs.Refusals.{numbered};
 ghost use Rattle.area.specs.Reads.{list_answer, listed, ListMeans, free_answer};
 
-use crate::formed::Station;
+use crate::formed::{Station, free_in};
 use crate::places::Places;
 use area::Refusal;
 
@@ -28,7 +28,9 @@ pub fn list(area: &[u32], numbers: &mut [u32]) -> Result<u32, Refusal>
     ensures numbers { numbers.new ≡ listed area.now numbers.old }
     ensures means { ListMeans area.now numbers.old (numbered result) numbers.new }
 {
-    let places = Station::read(area)?.places();
+    let free = free_in(area)?;
+    let station = Station { area, free: &free };
+    let places = station.places();
     if numbers.len() < places.count {
         return Err(Refusal::NumbersShort);
     }
@@ -40,10 +42,11 @@ pub fn list(area: &[u32], numbers: &mut [u32]) -> Result<u32, Refusal>
 pub fn free_units(area: &[u32], link: u32) -> Result<u32, Refusal>
     ensures { numbered result ≡ free_answer area.now link }
 {
-    let station = Station::read(area)?;
+    let free = free_in(area)?;
+    let station = Station { area, free: &free };
     let i = link as usize;
     if station.links().count <= i {
         return Err(Refusal::NoSuchLink);
     }
-    Ok(station.free[i])
+    Ok(free[i])
 }

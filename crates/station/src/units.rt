@@ -1,6 +1,8 @@
 // Free units: every link's capacity, less the units of each circuit that uses it. Where a link has too few left, the
 // circuits take more than its capacity.
-ghost use Rattle.std.specs.Prelude.{◌≡◌, true, ℕ, ◌-◌, ◌&&◌, get_or, is_some, IfSome};
+ghost use Rattle.std.specs.Prelude.{◌≡◌, true, ℕ, ◌-◌, ◌<◌, ◌&&◌, get_or, is_some, IfSome};
+ghost use Rattle.network.specs.Limits.{most_links};
+ghost use Rattle.network.specs.Lists.{All};
 ghost use Rattle.network.specs.Words.{field};
 ghost use Rattle.area.specs.Station.{circuits};
 ghost use Rattle.area.specs.Books.{usage};
@@ -60,6 +62,17 @@ fn take(table: &Table<'_>, free: &mut [u32; MOST_LINKS], circuit: &Circuit<'_>) 
         seen = seen.with(v);
     }
     true
+}
+
+// Takes these units of each link of a path, which an admission has found among the usable links.
+pub fn take_units(free: &mut [u32; MOST_LINKS], units: u32, path: &[u32])
+    requires links { All (λ i. i < most_links) path.now }
+    requires enough { enough units path.now free.old ≡ true }
+    ensures { free.new ≡ taken units path.now free.old }
+{
+    for &link in path {
+        free[link as usize] -= units;
+    }
 }
 
 // Each link's free units, where every circuit fits, their numbers rise, and they take at most each link's capacity. A place

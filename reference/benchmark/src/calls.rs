@@ -4,7 +4,7 @@
 //! held go from end to end, so each has 31 links.
 
 use crate::nets;
-use crate::proved::{Proved, NO_HOLDS};
+use crate::proved::{Opened, Proved, NO_HOLDS};
 use crate::requests;
 use crate::timing::{median, REPETITIONS};
 use std::time::Instant;
@@ -12,11 +12,13 @@ use std::time::Instant;
 const NODES: u32 = 32;
 const LINKS: u32 = 256;
 const CIRCUITS: u32 = 64;
+const JOBS: usize = 64;
 
 /// So many quick calls are timed in a row, and so many of the one for the sample table, which is the quickest by far. A slow
-/// one is timed alone.
+/// one is timed alone, and the slowest by far so many times.
 const QUICK: usize = 64;
 const QUICKEST: usize = 4096;
+const SLOWEST: usize = 5;
 
 /// An area with as many circuits as it can hold, all from end to end, numbered from 1.
 fn full_area(proved: &mut Proved, words: &[u32]) -> Result<Vec<u32>, String> {
@@ -45,12 +47,24 @@ fn link_file(words: &[u32]) -> Vec<u8> {
 fn row<Lent: Clone>(
     name: &str,
     input: &str,
+    calls: (usize, u32),
+    lent: &Lent,
+    call: impl FnMut(&mut Lent, usize) -> u32,
+) -> Result<(), String> {
+    repeated(REPETITIONS, name, input, calls, lent, call)
+}
+
+/// The same with fewer repetitions.
+fn repeated<Lent: Clone>(
+    repetitions: usize,
+    name: &str,
+    input: &str,
     (calls, expected): (usize, u32),
     lent: &Lent,
     mut call: impl FnMut(&mut Lent, usize) -> u32,
 ) -> Result<(), String> {
-    let mut times = Vec::with_capacity(REPETITIONS);
-    for _ in 0..REPETITIONS {
+    let mut times = Vec::with_capacity(repetitions);
+    for _ in 0..repetitions {
         let mut words = lent.clone();
         let mut others = 0;
         let start = Instant::now();
@@ -76,6 +90,12 @@ fn searches(proved: &mut Proved, full: &Vec<u32>) -> Result<(), String> {
     Proved::release(&mut area, CIRCUITS).map_err(|refusal| format!("a circuit was not released: {refusal}"))?;
     row("line_admit", "refused 10, x = 248, no round ends early, 63 held", (1, 10), &area, |area, _| {
         proved.admit(area, CIRCUITS, &request).err().unwrap_or(0)
+    })?;
+    let r = request;
+    let list = [CIRCUITS, r.s, r.t, r.units, r.delay_bound, r.cost_bound, r.coefficient].repeat(JOBS);
+    let mut opened = Opened::new(JOBS);
+    repeated(SLOWEST, "line_admit_jobs", "64 jobs, each as for line_admit", (1, 0), &area, |area, _| {
+        opened.admit_jobs(area, &list)
     })
 }
 

@@ -1,6 +1,7 @@
-//! The goals, held against the rows of the first table and, with most circuits held, of the second. A missed goal is printed
-//! and changes nothing else.
+//! The goals, held against the rows of the first table, with most circuits held of the second, and of the table of all jobs in
+//! one call. A missed goal is printed and changes nothing else.
 
+use crate::answer::Outcome;
 use crate::implementations::Call;
 use crate::timing::Times;
 
@@ -13,6 +14,10 @@ const SMALLEST: (u32, u32) = (8, 64);
 const MOST_HELD: u32 = 63;
 const QUOTE_HELD: f64 = 1.25;
 const ADMISSION_HELD: f64 = 1.4;
+
+/// All jobs in one call, of single admissions: on the smallest nets where problem one grants them, and anywhere.
+const OPENING: f64 = 0.9;
+const OPENING_ANYWHERE: f64 = 1.02;
 
 /// The greatest ratio so far, and its row.
 #[derive(Default)]
@@ -41,6 +46,8 @@ pub struct Goals {
     of_own_stop: Worst,
     quote_held: Worst,
     admission_held: Worst,
+    opening: Worst,
+    opening_anywhere: Worst,
 }
 
 impl Goals {
@@ -63,6 +70,14 @@ impl Goals {
         }
     }
 
+    /// A row of the table of all jobs in one call.
+    pub fn take_opening(&mut self, size: (u32, u32), outcome: Outcome, place: &str, ratio: f64) {
+        if size == SMALLEST && outcome == Outcome::ProblemOne {
+            self.opening.take(ratio, place);
+        }
+        self.opening_anywhere.take(ratio, place);
+    }
+
     pub fn print(&self) {
         let (n, m) = LARGEST;
         self.of_all_rounds.print(&format!("at ({n}, {m}) at most {OF_ALL_ROUNDS} of all rounds"), OF_ALL_ROUNDS);
@@ -70,6 +85,10 @@ impl Goals {
         let held = format!("with {MOST_HELD} circuits held at most");
         self.quote_held.print(&format!("a quote {held} {QUOTE_HELD} of early stop"), QUOTE_HELD);
         self.admission_held.print(&format!("an admission {held} {ADMISSION_HELD} of early stop"), ADMISSION_HELD);
+        let (n, m) = SMALLEST;
+        self.opening.print(&format!("all jobs in one call at ({n}, {m}) at most {OPENING} of single ones"), OPENING);
+        let goal = format!("and nowhere more than {OPENING_ANYWHERE}");
+        self.opening_anywhere.print(&goal, OPENING_ANYWHERE);
         let Worst { ratio, place } = &self.of_own_stop;
         println!("besides: with the proved search's own stop the plain one gives at most {ratio:.2}, at {place}");
     }

@@ -1,6 +1,6 @@
 //! The benchmark: how long a quote and an admission with its release take in the proved archive and in a plain Rust
-//! search by the paper's lines, with all rounds, with an early stop and with the proved search's own stop; then each call
-//! of the C interface at its largest or slowest input. docs/performance.md has what it prints, docs/MANUAL.md the last
+//! search by the paper's lines, with all rounds, with an early stop and with the proved search's own stop; then all jobs in
+//! one call against the same jobs admitted one at a time; then each call of the C interface at its largest or slowest input. docs/performance.md has what it prints, docs/MANUAL.md the last
 //! table.
 
 mod answer;
@@ -9,6 +9,7 @@ mod goals;
 mod implementations;
 mod jobs;
 mod nets;
+mod opening;
 mod places;
 mod plain;
 mod proved;
@@ -28,6 +29,8 @@ fn tables() -> Result<(), String> {
     tables::by_held_circuits(&mut places, &mut implementations, &mut goals)?;
     println!();
     tables::by_x(&mut places, &mut implementations)?;
+    println!();
+    opening::table(&mut places, &mut implementations.proved, &mut goals)?;
     if places.writes() {
         return Ok(());
     }

@@ -2,7 +2,6 @@
 //! worth up to a third of a call. So ./benchmark links this program at several places. Each writes its rows' times to a file
 //! (--write FILE), and one prints the tables with the least that any of the files has for each time (FILE..).
 
-use crate::timing::Times;
 use std::fs::{self, File};
 use std::io::Write;
 use std::vec::IntoIter;
@@ -10,22 +9,18 @@ use std::vec::IntoIter;
 enum Rows {
     Measured,
     Written(File),
-    Read { rows: IntoIter<Vec<Times>>, spread: f64 },
+    Read { rows: IntoIter<Vec<Vec<f64>>>, spread: f64 },
 }
 
 pub struct Places(Rows);
 
-fn times(line: &str) -> Result<Times, String> {
-    let numbers: Result<Vec<f64>, _> = line.split(' ').map(str::parse).collect();
-    match numbers.as_deref() {
-        Ok(&[proved, all_rounds, early_stop, own_stop]) => Ok(Times { proved, all_rounds, early_stop, own_stop }),
-        _ => Err(format!("no times: {line}")),
-    }
+fn times(line: &str) -> Result<Vec<f64>, String> {
+    line.split(' ').map(str::parse).collect::<Result<_, _>>().map_err(|_| format!("no times: {line}"))
 }
 
 /// Each row's times at every place.
-fn read(files: &[String]) -> Result<IntoIter<Vec<Times>>, String> {
-    let mut rows: Vec<Vec<Times>> = Vec::new();
+fn read(files: &[String]) -> Result<IntoIter<Vec<Vec<f64>>>, String> {
+    let mut rows: Vec<Vec<Vec<f64>>> = Vec::new();
     for file in files {
         let text = fs::read_to_string(file).map_err(|e| format!("{file}: {e}"))?;
         for (i, line) in text.lines().enumerate() {
@@ -41,12 +36,12 @@ fn read(files: &[String]) -> Result<IntoIter<Vec<Times>>, String> {
     Ok(rows.into_iter())
 }
 
-fn least(row: &[Times], time: fn(&Times) -> f64) -> f64 {
-    row.iter().map(time).fold(f64::INFINITY, f64::min)
-}
-
-fn greatest(row: &[Times], time: fn(&Times) -> f64) -> f64 {
-    row.iter().map(time).fold(0.0, f64::max)
+/// The least of each time of a row.
+fn least<const N: usize>(row: &[Vec<f64>]) -> Result<[f64; N], String> {
+    if row.iter().any(|times| times.len() != N) {
+        return Err("a row with another number of times".to_string());
+    }
+    Ok(std::array::from_fn(|i| row.iter().map(|times| times[i]).fold(f64::INFINITY, f64::min)))
 }
 
 impl Places {
@@ -65,22 +60,21 @@ impl Places {
         matches!(self.0, Rows::Written(_))
     }
 
-    pub fn times(&mut self, turns: impl FnOnce() -> Times) -> Result<Times, String> {
+    /// The times of a row, of which the first is the proved one.
+    pub fn times<const N: usize>(&mut self, turns: impl FnOnce() -> [f64; N]) -> Result<[f64; N], String> {
         match &mut self.0 {
             Rows::Measured => Ok(turns()),
             Rows::Written(file) => {
-                let Times { proved, all_rounds, early_stop, own_stop } = turns();
-                writeln!(file, "{proved} {all_rounds} {early_stop} {own_stop}").map_err(|e| e.to_string())?;
-                Ok(Times { proved, all_rounds, early_stop, own_stop })
+                let row = turns();
+                let text = row.map(|time| time.to_string()).join(" ");
+                writeln!(file, "{text}").map_err(|e| e.to_string())?;
+                Ok(row)
             }
             Rows::Read { rows, spread } => {
                 let row = rows.next().ok_or("too few rows")?;
-                let proved = least(&row, |t| t.proved);
-                *spread = spread.max(greatest(&row, |t| t.proved) / proved);
-                let all_rounds = least(&row, |t| t.all_rounds);
-                let early_stop = least(&row, |t| t.early_stop);
-                let own_stop = least(&row, |t| t.own_stop);
-                Ok(Times { proved, all_rounds, early_stop, own_stop })
+                let least = least::<N>(&row)?;
+                *spread = row.iter().fold(*spread, |spread, times| spread.max(times[0] / least[0]));
+                Ok(least)
             }
         }
     }

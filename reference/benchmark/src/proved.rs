@@ -7,6 +7,9 @@ const AREA: usize = 3491;
 const WORK: usize = 16384;
 const PATH: usize = 31;
 
+/// The words that answer a job, where all jobs come in one call.
+const ANSWER: usize = 36;
+
 const MOST_NODES: usize = 32;
 
 /// No node of the benchmark's nets holds a message: the plain search knows no hold times.
@@ -54,10 +57,44 @@ impl Proved {
         &self.path[..self.answer[3] as usize]
     }
 
+    /// The 36 words that all jobs in one call would answer this admission with, which was the last.
+    pub fn words(&self, answer: &Answer) -> [u32; ANSWER] {
+        let mut words = [0; ANSWER];
+        match answer {
+            Ok(_) => {
+                words[1..5].copy_from_slice(&self.answer);
+                words[5..5 + self.path().len()].copy_from_slice(self.path());
+            }
+            Err(refusal) => words[0] = *refusal,
+        }
+        words
+    }
+
     fn answer_of(&self, code: u32) -> Answer {
         match code {
             0 => Ok(Grant { problem: self.answer[0], delay: self.answer[1], cost: self.answer[2] }),
             refusal => Err(refusal),
         }
+    }
+}
+
+/// All jobs in one call, with work memory and an answer buffer of its own.
+pub struct Opened {
+    work: Vec<u32>,
+    answers: Vec<u32>,
+}
+
+impl Opened {
+    pub fn new(jobs: usize) -> Opened {
+        Opened { work: vec![0; WORK], answers: vec![0; ANSWER * jobs] }
+    }
+
+    pub fn admit_jobs(&mut self, area: &mut [u32], list: &[u32]) -> u32 {
+        line::admit_jobs(area, &mut self.work, list, &mut self.answers, &mut [0])
+    }
+
+    /// The words that answer a job.
+    pub fn answer(&self, job: usize) -> &[u32] {
+        &self.answers[ANSWER * job..ANSWER * (job + 1)]
     }
 }

@@ -48,7 +48,7 @@ pub fn median(mut times: Vec<f64>) -> f64 {
 }
 
 /// Each repetition has a turn of each implementation, and each repetition another one goes first.
-fn turns(implementations: &mut Implementations, call: Call, jobs: &mut [Job]) -> Times {
+fn turns(implementations: &mut Implementations, call: Call, jobs: &mut [Job]) -> [f64; 4] {
     let mut times = [(); 4].map(|()| Vec::with_capacity(REPETITIONS));
     for repetition in 0..REPETITIONS {
         for place in 0..TURNS.len() {
@@ -56,8 +56,7 @@ fn turns(implementations: &mut Implementations, call: Call, jobs: &mut [Job]) ->
             times[which].push(turn(implementations, TURNS[which], call, jobs));
         }
     }
-    let [proved, all_rounds, early_stop, own_stop] = times.map(median);
-    Times { proved, all_rounds, early_stop, own_stop }
+    times.map(median)
 }
 
 /// The times of a row: from the clock, or the least of those that this program had at other places.
@@ -67,5 +66,6 @@ pub fn measure(
     call: Call,
     jobs: &mut [Job],
 ) -> Result<Times, String> {
-    places.times(|| turns(implementations, call, jobs))
+    let [proved, all_rounds, early_stop, own_stop] = places.times(|| turns(implementations, call, jobs))?;
+    Ok(Times { proved, all_rounds, early_stop, own_stop })
 }

@@ -6,10 +6,12 @@ use crate::class_tables;
 use crate::damage::{damage, Damage};
 use crate::files;
 use crate::hold_times;
+use crate::job_lists;
 use crate::nets::{net, style, Net, Style};
 use crate::requests::{circuit, request};
 use crate::sweep;
 use document01::area::AREA_WORDS;
+use document01::opening::ANSWER_WORDS;
 use document01::table::MOST_DELAY_BOUND;
 use line::Request;
 use seeded::Random;
@@ -29,6 +31,12 @@ pub enum Call {
     },
     Release {
         circuit: u32,
+    },
+    /// All jobs in one call.
+    AdmitJobs {
+        jobs: Vec<u32>,
+        work: Lent,
+        answers: Lent,
     },
     List {
         numbers: Lent,
@@ -68,6 +76,13 @@ pub enum Call {
     },
 }
 
+impl Call {
+    /// Whether it may change the bookings. Such calls remain in the second run: with the quotes, all others are struck.
+    pub fn books(&self) -> bool {
+        matches!(self, Call::Admit { .. } | Call::Release { .. } | Call::AdmitJobs { .. })
+    }
+}
+
 #[derive(Clone, Debug)]
 pub struct Case {
     pub seed: u64,
@@ -79,7 +94,7 @@ pub struct Case {
     pub calls: Vec<Call>,
 }
 
-fn holds(rng: &mut Random) -> Holds {
+pub fn holds(rng: &mut Random) -> Holds {
     match rng.range(0, 6) {
         0..=2 => Holds::Random(rng.double_word()),
         3 | 4 => Holds::Kept,
@@ -89,7 +104,7 @@ fn holds(rng: &mut Random) -> Holds {
 }
 
 /// A buffer of mostly enough words; else around its least length.
-fn lent(rng: &mut Random, least: usize) -> Lent {
+pub fn lent(rng: &mut Random, least: usize) -> Lent {
     let enough = least + rng.pick(&[0, 0, 1, 9]);
     let words = match rng.range(0, 27) {
         0 => rng.range(0, 3) as usize,
@@ -131,11 +146,12 @@ fn read_link_file(rng: &mut Random, net: &Net) -> Call {
 /// A call on the area: quotes and admissions most of all.
 fn on_area(rng: &mut Random, net: &Net, pool: u32) -> Call {
     let (work, path) = (lent(rng, 16_384), lent(rng, 31));
-    match rng.range(0, 19) {
+    match rng.range(0, 21) {
         0..=5 => Call::Quote { request: request(rng, net), work, path },
         6..=13 => Call::Admit { circuit: circuit(rng, pool), request: request(rng, net), work, path },
         14..=16 => Call::Release { circuit: circuit(rng, pool) },
         17 => list(rng),
+        18 | 19 => job_lists::call(rng, net, pool),
         _ => {
             let m = net.words.len() as u32 / 5;
             let link = rng.range(0, m + 1);
@@ -158,15 +174,25 @@ fn call(rng: &mut Random, net: &Net, pool: u32) -> Call {
     }
 }
 
-/// More admissions than there is place for.
+/// More admissions than there is place for, one by one or some together.
 fn filling(rng: &mut Random, net: &Net) -> Vec<Call> {
-    let admit = |rng: &mut Random, circuit| {
-        let request = Request { units: 1, delay_bound: MOST_DELAY_BOUND, cost_bound: 1_000, ..request(rng, net) };
-        Call::Admit { circuit, request, work: lent(rng, 16_384), path: lent(rng, 31) }
-    };
+    let asks =
+        |rng: &mut Random| Request { units: 1, delay_bound: MOST_DELAY_BOUND, cost_bound: 1_000, ..request(rng, net) };
     let mut numbers: Vec<u32> = (1..=90).collect();
     rng.shuffle(&mut numbers);
-    numbers.into_iter().map(|circuit| admit(rng, circuit)).collect()
+    if rng.one_in(3) {
+        let jobs = numbers.chunks(rng.pick(&[7, 30, 64]));
+        return jobs.map(|numbers| together(rng, numbers, asks)).collect();
+    }
+    let admit = |circuit| Call::Admit { circuit, request: asks(rng), work: lent(rng, 16_384), path: lent(rng, 31) };
+    numbers.into_iter().map(admit).collect()
+}
+
+/// All these circuits in one call.
+fn together(rng: &mut Random, numbers: &[u32], asks: impl Fn(&mut Random) -> Request) -> Call {
+    let jobs: Vec<u32> = numbers.iter().flat_map(|&circuit| job_lists::job(circuit, &asks(rng))).collect();
+    let answers = Lent { words: ANSWER_WORDS * numbers.len(), holds: holds(rng) };
+    Call::AdmitJobs { jobs, work: lent(rng, 16_384), answers }
 }
 
 /// The case of a seed; the first seeds are those of the cases that go through everything.

@@ -5,7 +5,7 @@
 use document01::Rule;
 
 /// The name by which `compare --fault NAME` switches it on, and the rule that is broken.
-pub const FAULTS: [(&str, Rule); 38] = [
+pub const FAULTS: [(&str, Rule); 45] = [
     ("scaled-down", Rule::RoundUp),
     ("total-scaled-once", Rule::ScaleEachLink),
     ("problem-two-first", Rule::ProblemOneFirst),
@@ -36,6 +36,13 @@ pub const FAULTS: [(&str, Rule); 38] = [
     ("placed-behind-the-last", Rule::PlacedByNumber),
     ("unused-words-well-formed", Rule::UnusedClear),
     ("listed-as-admitted", Rule::ListedByNumber),
+    ("stopped-at-the-first-refused-job", Rule::JobsGoOn),
+    ("units-of-earlier-jobs-unseen", Rule::JobsSeeUnits),
+    ("numbers-of-earlier-jobs-unseen", Rule::JobsSeeNumbers),
+    ("room-before-the-job-list", Rule::JobsBeforeRoom),
+    ("granted-jobs-counted", Rule::EveryJobCounts),
+    ("full-job-list-refused", Rule::FullJobList),
+    ("unused-answer-words-kept", Rule::AnswersClear),
     ("source-at-0-alone", Rule::SourceAtEachK),
     ("last-column-left-out", Rule::LastColumn),
     ("relaxed-where-equal", Rule::LessAlone),

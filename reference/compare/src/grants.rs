@@ -88,6 +88,17 @@ pub fn document_request(r: &Request) -> document01::Request {
     }
 }
 
+pub fn line_request(r: &document01::Request) -> Request {
+    Request {
+        s: r.s,
+        t: r.t,
+        units: r.units,
+        delay_bound: r.delay_bound,
+        cost_bound: r.cost_bound,
+        coefficient: r.coefficient,
+    }
+}
+
 /// What the archive replied, code, answer array and path buffer, against the ledger's reply.
 pub fn judged(
     ledger: &Ledger,
@@ -100,10 +111,7 @@ pub fn judged(
     let (problem, least) = match reply {
         Reply::Refused(number) => {
             let answer = refused(code, number, memory)?;
-            no_grant_is_due(ledger, number, r)?;
-            if number == 10 {
-                choices.beside(ledger, &document_request(r), None);
-            }
+            refusal_is_due(ledger, number, r, choices)?;
             return Ok(answer);
         }
         Reply::Granted { problem, least } => (problem, least),
@@ -115,10 +123,32 @@ pub fn judged(
     require(memory.out.same_from(links), "a word of the path buffer past the path changed")?;
     let path = memory.out.slice()[..links].to_vec();
     let grant = Grant { problem: numbers[0], delay: numbers[1], cost: numbers[2], path };
-    judge::grant(ledger, &document_request(r), problem, least, &grant).map_err(|why| format!("{grant:?}: {why}"))?;
-    choices.agree(ledger, r, &grant)?;
-    choices.beside(ledger, &document_request(r), Some(&grant));
+    grant_is_due(ledger, (problem, least), r, &grant, choices)?;
     Ok(Answer { code, numbers: numbers.to_vec(), path: grant.path })
+}
+
+/// A grant where the ledger says which problem grants and with what least kept weight.
+pub fn grant_is_due(
+    ledger: &Ledger,
+    (problem, least): (u32, u64),
+    r: &Request,
+    grant: &Grant,
+    choices: &mut Choices,
+) -> Result<(), String> {
+    let request = document_request(r);
+    judge::grant(ledger, &request, problem, least, grant).map_err(|why| format!("{grant:?}: {why}"))?;
+    choices.agree(ledger, r, grant)?;
+    choices.beside(ledger, &request, Some(grant));
+    Ok(())
+}
+
+/// A refusal that the ledger says.
+pub fn refusal_is_due(ledger: &Ledger, number: u32, r: &Request, choices: &mut Choices) -> Result<(), String> {
+    no_grant_is_due(ledger, number, r)?;
+    if number == 10 {
+        choices.beside(ledger, &document_request(r), None);
+    }
+    Ok(())
 }
 
 /// Where a search is refused with 10, no listed path is overqualified.

@@ -34,7 +34,7 @@ pub fn run(case: &Case, rules: Rules, tally: &mut Tally) -> Result<(), Failure> 
     let mut choices = Choices::default();
     let all: Vec<(usize, &Call)> = case.calls.iter().enumerate().collect();
     let first = play(case, &all, rules, 0, &mut choices, tally)?;
-    let mut struck: Vec<(usize, &Call)> = all.into_iter().filter(|(_, call)| books(call)).collect();
+    let mut struck: Vec<(usize, &Call)> = all.into_iter().filter(|(_, call)| call.books()).collect();
     if !rules.hold(Rule::QuotesAlone) && !struck.is_empty() {
         struck.remove(0);
     }
@@ -56,11 +56,6 @@ pub fn run(case: &Case, rules: Rules, tally: &mut Tally) -> Result<(), Failure> 
     Ok(())
 }
 
-/// The calls that remain in the second run: with the quotes, all others that book nothing are struck too.
-fn books(call: &Call) -> bool {
-    matches!(call, Call::Admit { .. } | Call::Release { .. })
-}
-
 /// Loads the table and makes the calls, with buffers of the same lengths and, by `other`, other contents.
 fn play(
     case: &Case,
@@ -76,7 +71,7 @@ fn play(
     for (number, call) in calls {
         let answer = one(&mut station, call, rules, &mut memory, choices, tally)
             .map_err(|what| Failure { call: *number, what })?;
-        if books(call) {
+        if call.books() {
             answers.push(answer);
         }
     }

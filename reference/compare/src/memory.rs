@@ -1,5 +1,6 @@
-//! The buffers beside the area, each between guard words: work memory, the one that a call writes its path, its list or
-//! its table into, the answer array, and words that a call only reads: a table and, for Load, hold times.
+//! The buffers beside the area, each between guard words: work memory, the one that a call writes its path, its list, its
+//! jobs' answers or its table into, the answer array, and words that a call only reads: a table or a job list and, for
+//! Load, hold times.
 
 use crate::buffer::{Buffer, Holds, Lent};
 use document01::judge::require;

@@ -1,6 +1,7 @@
 //! What a run has seen of the order of circuits.
 
 use crate::damage::Field;
+use crate::opening::ALL_JOBS;
 use document01::area::{CIRCUIT_WORDS, FIRST_CIRCUIT};
 use document01::ledger::PATH_WORDS;
 use std::collections::{BTreeMap, BTreeSet};
@@ -13,6 +14,9 @@ const PLACES: [((bool, bool), &str); 4] = [
     ((true, true), "between others"),
 ];
 
+/// The calls by which circuits come and go.
+const CALLS: [&str; 3] = ["admit", ALL_JOBS, "release"];
+
 /// Damage that always gives 5, and damage that never does.
 const DUE: [(Field, &str); 4] = [
     (Field::Exchanged, "two neighbours exchanged"),
@@ -23,7 +27,7 @@ const DUE: [(Field, &str); 4] = [
 
 #[derive(Clone, Default)]
 pub struct OrderTally {
-    /// Granted admissions and releases, by where that circuit stands.
+    /// Granted admissions, singly and all in one call, and releases, by where that circuit stands.
     booked: BTreeMap<(&'static str, (bool, bool)), u64>,
     /// Admissions that put a 0 where another word stood.
     cleared: u64,
@@ -73,7 +77,7 @@ impl OrderTally {
     pub fn missing(&self) -> Vec<String> {
         let mut missing = Vec::new();
         let mut due = |seen: bool, what: &str| missing.extend((!seen).then(|| what.to_string()));
-        for call in ["admit", "release"] {
+        for call in CALLS {
             for (place, name) in PLACES {
                 due(self.booked.contains_key(&(call, place)), &format!("no {call} of a circuit {name}"));
             }
@@ -91,7 +95,7 @@ impl OrderTally {
 
     pub fn print(&self) {
         let mut heading = "circuits";
-        for call in ["admit", "release"] {
+        for call in CALLS {
             let count = |place| self.booked.get(&(call, place)).unwrap_or(&0);
             let counts: Vec<String> = PLACES.iter().map(|&(place, name)| format!("{name}: {}", count(place))).collect();
             println!("  {heading:<16}{call}: {}", counts.join("  "));

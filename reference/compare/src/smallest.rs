@@ -1,8 +1,10 @@
 //! The smallest list of calls that shows a failure.
 
+use crate::buffer::Lent;
 use crate::cases::{Call, Case};
 use crate::history::{run, Failure};
 use crate::tally::Tally;
+use document01::opening::{ANSWER_WORDS, JOB_WORDS};
 use document01::Rules;
 
 fn failure(case: &Case, rules: Rules) -> Option<Failure> {
@@ -13,9 +15,14 @@ fn with_calls(case: &Case, calls: Vec<Call>) -> Case {
     Case { calls, ..case.clone() }
 }
 
-/// Every list of at most two of the calls is tried, the shorter first; where none fails, calls are left out one by one,
-/// from the first, as long as the rest still fails. No call of what is left can be left out.
+/// The fewest calls, and then the fewest jobs of their job lists. No call and no job of what is left can be left out.
 pub fn smallest(case: &Case, rules: Rules) -> (Case, Failure) {
+    fewest_jobs(fewest_calls(case, rules), rules)
+}
+
+/// Every list of at most two of the calls is tried, the shorter first; where none fails, calls are left out one by one,
+/// from the first, as long as the rest still fails.
+fn fewest_calls(case: &Case, rules: Rules) -> (Case, Failure) {
     let found = failure(case, rules).expect("the case fails");
     let case = with_calls(case, case.calls.iter().take(found.call + 1).cloned().collect());
     for first in 0..case.calls.len() {
@@ -53,6 +60,40 @@ fn left_out(mut case: Case, rules: Rules) -> (Case, Failure) {
         if case.calls.len() == before {
             return (case, found);
         }
+    }
+}
+
+/// Leaves out jobs one by one as long as it still fails.
+fn fewest_jobs((mut case, mut found): (Case, Failure), rules: Rules) -> (Case, Failure) {
+    for at in 0..case.calls.len() {
+        let mut job = 0;
+        while let Some(call) = without_job(&case.calls[at], job) {
+            let mut calls = case.calls.clone();
+            calls[at] = call;
+            let smaller = with_calls(&case, calls);
+            match failure(&smaller, rules) {
+                Some(failure) => (case, found) = (smaller, failure),
+                None => job += 1,
+            }
+        }
+    }
+    (case, found)
+}
+
+/// The call with one job of its list fewer, and the words for its answer.
+fn without_job(call: &Call, job: usize) -> Option<Call> {
+    match call {
+        Call::AdmitJobs { jobs, work, answers } => {
+            let at = JOB_WORDS * job;
+            let jobs = [jobs.get(..at)?, jobs.get(at + JOB_WORDS..)?].concat();
+            let answers = Lent { words: answers.words.saturating_sub(ANSWER_WORDS), ..*answers };
+            Some(Call::AdmitJobs { jobs, work: *work, answers })
+        }
+        Call::Damaged { damage, call } => {
+            let call = Box::new(without_job(call, job)?);
+            Some(Call::Damaged { damage: *damage, call })
+        }
+        _ => None,
     }
 }
 

@@ -5,6 +5,7 @@ use crate::cases::Call;
 use crate::grants::{document_request, judged, Choices};
 use crate::hold_times;
 use crate::memory::Memory;
+use crate::opening::ALL_JOBS;
 use crate::tables;
 use crate::tally::Tally;
 use document01::area::{CIRCUIT_WORDS, FIRST_CIRCUIT, FIRST_HOLD};
@@ -59,6 +60,9 @@ impl Station {
                 ("admit", self.admit(*circuit, request, [*work, *path], memory, choices, tally))
             }
             Call::Release { circuit } => ("release", self.release(*circuit)),
+            Call::AdmitJobs { jobs, work, answers } => {
+                (ALL_JOBS, self.admit_jobs(jobs, [*work, *answers], memory, choices, tally))
+            }
             Call::List { numbers } => ("list", self.list(*numbers, memory)),
             Call::FreeUnits { link } => ("free units", self.free_units(*link, memory)),
             _ => return Err("not a call on the area".to_string()),
@@ -66,8 +70,7 @@ impl Station {
         let answer = answer?;
         require(self.area.guards_stand(), "a word beside the area changed")?;
         memory.guarded()?;
-        let books = matches!(call, Call::Admit { .. } | Call::Release { .. });
-        if answer.code != 0 || !books {
+        if answer.code != 0 || !call.books() {
             require(self.area.same_from(0), "a call that books nothing changed the area")?;
         }
         tally.saw(name, answer.code);
@@ -194,9 +197,9 @@ impl Station {
         Ok(Answer { code, numbers: vec![answered], path: Vec::new() })
     }
 
-    /// After an admission or a release: n, m, the links, the hold times and the words past them are untouched, the
+    /// After admissions or a release: n, m, the links, the hold times and the words past them are untouched, the
     /// circuits' words are those of the entries, and so the area is well formed and its bookings are the entries.
-    fn books_agree(&self) -> Result<(), String> {
+    pub fn books_agree(&self) -> Result<(), String> {
         let (now, before) = (self.area.slice(), self.area.before());
         let links = 3..FIRST_CIRCUIT;
         let kept =

@@ -2,16 +2,19 @@
 //! set to each of the numbers at which a range ends, circuits out of their order and words past their paths, buffers of
 //! every length around each limit, the longest path with the greatest weights, with and without hold times, class
 //! tables of every word count and hold lists of every length, with each number at and past both ends of its range, and
-//! a search that takes all rounds.
+//! a search that takes all rounds. Those of all jobs in one call stand in `job_cases`.
 
 use crate::buffer::{Holds, Lent};
 use crate::cases::{Call, Case};
 use crate::class_tables;
 use crate::damage::{field_at, Change, Damage, Field, EDGES};
 use crate::hold_times;
+use crate::job_cases;
+use crate::job_lists::job;
 use crate::nets::Style;
 use document01::area::{AREA_WORDS, CIRCUIT_WORDS, FIRST_CIRCUIT, FIRST_HOLD};
 use document01::ledger::PATH_WORDS;
+use document01::opening::ANSWER_WORDS;
 use document01::table::{MOST_COST_BOUND, MOST_HOLD};
 use line::Request;
 
@@ -20,18 +23,20 @@ const WORDS: usize = 12;
 
 const CASES_AN_AREA: u64 = AREA_WORDS.div_ceil(WORDS) as u64;
 
-/// How many such cases there are: the words of two areas, the order of circuits in both, hold words, lengths, the
-/// longest path twice, class tables, hold lists and all rounds.
-pub const COUNT: u64 = 2 * CASES_AN_AREA + 9;
+/// How many cases there are beside those of all jobs in one call: the words of two areas, the order of circuits in both,
+/// hold words, lengths, the longest path twice, class tables, hold lists and all rounds.
+const BEFORE_JOBS: u64 = 2 * CASES_AN_AREA + 9;
 
-const ENOUGH_WORK: Lent = Lent { words: 16_384, holds: Holds::Kept };
+pub const COUNT: u64 = BEFORE_JOBS + job_cases::COUNT;
+
+pub const ENOUGH_WORK: Lent = Lent { words: 16_384, holds: Holds::Kept };
 const ENOUGH_PATH: Lent = Lent { words: 31, holds: Holds::Kept };
 
 /// A triangle with a parallel link and a way back; the capacities leave room for 64 circuits of one unit.
 const SMALL: [u32; 25] = [0, 1, 2, 5, 70, 1, 2, 2, 5, 70, 0, 2, 9, 1, 70, 0, 2, 9, 2, 3, 2, 0, 1, 1, 70];
 const SMALL_HOLDS: [u32; 3] = [5, 3, 8];
 
-fn request(s: u32, t: u32) -> Request {
+pub fn request(s: u32, t: u32) -> Request {
     Request { s, t, units: 1, delay_bound: 12, cost_bound: 20, coefficient: 4 }
 }
 
@@ -50,18 +55,23 @@ fn admissions(held: u32) -> Vec<Call> {
     (0..held).map(|i| admit(1 + 29 * i % held)).collect()
 }
 
-/// One of the five calls on an area.
+/// One of the six calls on an area.
 fn call(which: usize) -> Call {
-    match which % 5 {
+    match which % 6 {
         0 => Call::Quote { request: request(0, 2), work: ENOUGH_WORK, path: ENOUGH_PATH },
         1 => Call::Admit { circuit: 100, request: request(0, 2), work: ENOUGH_WORK, path: ENOUGH_PATH },
         2 => Call::Release { circuit: 2 },
         3 => Call::List { numbers: Lent { words: 64, holds: Holds::Ones } },
+        4 => Call::AdmitJobs {
+            jobs: [job(100, &request(0, 2)), job(1, &request(0, 2)), job(0, &request(2, 2))].concat(),
+            work: ENOUGH_WORK,
+            answers: Lent { words: 110, holds: Holds::Ones },
+        },
         _ => Call::FreeUnits { link: 2 },
     }
 }
 
-fn with_calls(seed: u64, calls: Vec<Call>) -> Case {
+pub fn with_calls(seed: u64, calls: Vec<Call>) -> Case {
     let area = Lent { words: AREA_WORDS, holds: Holds::Random(seed) };
     let (words, hold_times) = (SMALL.to_vec(), SMALL_HOLDS.to_vec());
     Case { seed, style: Style::Tiny, n: 3, words, hold_times, area, calls }
@@ -114,6 +124,9 @@ fn lengths(seed: u64) -> Case {
         calls.push(Call::Quote { request: request(0, 2), work: lent(words), path: ENOUGH_PATH });
         calls.push(Call::Admit { circuit: 200, request: request(0, 2), work: lent(words), path: ENOUGH_PATH });
         calls.push(Call::Release { circuit: 200 });
+        let (jobs, answers) = (job(200, &request(0, 2)).to_vec(), lent(36));
+        calls.push(Call::AdmitJobs { jobs, work: lent(words), answers });
+        calls.push(Call::Release { circuit: 200 });
     }
     for words in 0..48 {
         calls.push(Call::Quote { request: request(0, 2), work: ENOUGH_WORK, path: lent(words) });
@@ -126,7 +139,7 @@ fn lengths(seed: u64) -> Case {
     let load = |words, area| Call::Load { n: 3, words, hold_times: SMALL_HOLDS.to_vec(), area };
     for words in (0..6).chain(3_450..3_500) {
         calls.push(load(SMALL.to_vec(), lent(words)));
-        for which in 0..5 {
+        for which in 0..6 {
             let damage = Damage { field: Field::Length, word: 0, change: Change::Cut(words) };
             calls.push(Call::Damaged { damage, call: Box::new(call(which)) });
         }
@@ -155,10 +168,10 @@ fn held(seed: u64) -> Case {
 }
 
 /// From end to end of the line: x is 248, and every path adds up to the greatest cost bound, and with the greatest hold
-/// times to the greatest delay bound. A bound of 1 makes the greatest scaled weights.
+/// times to the greatest delay bound. A bound of 1 makes the greatest scaled weights. Once singly, once all in one call.
 fn longest(seed: u64, hold: u32) -> Case {
     let (delay, cost) = (31 * 1_000_000 + 30 * hold, MOST_COST_BOUND);
-    let mut calls = Vec::new();
+    let (mut calls, mut jobs) = (Vec::new(), Vec::new());
     let bounds =
         [delay, delay - 1, 1].map(|delay_bound| [cost, cost - 1, 1].map(|cost_bound| (delay_bound, cost_bound)));
     for (delay_bound, cost_bound) in bounds.into_iter().flatten() {
@@ -167,8 +180,11 @@ fn longest(seed: u64, hold: u32) -> Case {
             calls.push(Call::Quote { request, work: ENOUGH_WORK, path: ENOUGH_PATH });
             calls.push(Call::Admit { circuit: units, request, work: ENOUGH_WORK, path: ENOUGH_PATH });
             calls.push(Call::FreeUnits { link: 0 });
+            jobs.push(job(100 + jobs.len() as u32, &request));
         }
     }
+    let answers = Lent { words: ANSWER_WORDS * jobs.len(), holds: Holds::Ones };
+    calls.push(Call::AdmitJobs { jobs: jobs.concat(), work: ENOUGH_WORK, answers });
     line(seed, hold, calls)
 }
 
@@ -185,11 +201,14 @@ fn all_rounds(seed: u64) -> Case {
 
 /// The case of a number below `COUNT`.
 pub fn case(number: u64) -> Case {
+    if let Some(which) = number.checked_sub(BEFORE_JOBS) {
+        return job_cases::case(number, which);
+    }
     let first = WORDS * (number % CASES_AN_AREA) as usize;
     match number / CASES_AN_AREA {
         0 => damaged(number, first, 5, Holds::Random(number)),
         1 => damaged(number, first, 64, Holds::Ones),
-        _ => match COUNT - number {
+        _ => match BEFORE_JOBS - number {
             9 => out_of_order(number, 5),
             8 => out_of_order(number, 64),
             7 => held(number),

@@ -3,6 +3,8 @@
 use crate::class_tables::{ends, COUNTS, RANGES};
 use crate::damage::{Field, FIELDS};
 use crate::hold_tally::HoldTally;
+use crate::opening::ALL_JOBS;
+use crate::opening_tally::OpeningTally;
 use crate::order_tally::OrderTally;
 use crate::table_tally::TableTally;
 use std::collections::{BTreeMap, BTreeSet};
@@ -27,16 +29,18 @@ pub struct Tally {
     /// Quotes and admissions whose network and request came before: they had to get the same path.
     pub repeated: u64,
     pub holds: HoldTally,
+    pub opening: OpeningTally,
     pub order: OrderTally,
     pub tables: TableTally,
 }
 
 /// Every number that the papers give a call, 0 for a grant.
-const DUE: [(&str, &[u32]); 10] = [
+const DUE: [(&str, &[u32]); 11] = [
     ("load", &[0, 1, 2, 3, 4, 22]),
     ("quote", &[0, 5, 6, 7, 8, 9, 10]),
     ("admit", &[0, 5, 6, 7, 8, 11, 12, 9, 10]),
     ("release", &[0, 5, 13]),
+    (ALL_JOBS, &[0, 5, 6, 23, 24]),
     ("list", &[0, 5, 14]),
     ("free units", &[0, 5, 15]),
     ("check classes", &[0, 20, 21]),
@@ -94,6 +98,7 @@ impl Tally {
 
     pub fn add(&mut self, other: &Tally) {
         self.holds.add(&other.holds);
+        self.opening.add(&other.opening);
         self.order.add(&other.order);
         self.tables.add(&other.tables);
         self.counts.extend(&other.counts);
@@ -124,6 +129,7 @@ impl Tally {
         missing.extend(self.missing_rows());
         missing.extend(self.missing_grants());
         missing.extend(self.holds.missing());
+        missing.extend(self.opening.missing());
         missing.extend(self.order.missing());
         missing.extend(self.tables.missing());
         missing
@@ -208,6 +214,7 @@ impl Tally {
         }
         println!("                  among 256 links: {}  most links of a path: {}", self.full, self.longest);
         self.holds.print();
+        self.opening.print();
         self.order.print();
         self.tables.print();
         println!("  same network and request again, same path: {}", self.repeated);

@@ -23,6 +23,8 @@ pub struct Ledger {
     rules: Rules,
     /// Entries whose units are still taken though they went: none, unless a rule is broken.
     unfreed: Vec<Entry>,
+    /// How many of the last entries came by the call that is being made: it may make several.
+    pub(crate) by_this_call: usize,
 }
 
 /// Refused with a number, or granted: the problem, and the least kept weight among its solutions.
@@ -34,7 +36,7 @@ pub enum Reply {
 
 impl Ledger {
     pub fn new(table: Table, rules: Rules) -> Ledger {
-        Ledger { table, entries: Vec::new(), rules, unfreed: Vec::new() }
+        Ledger { table, entries: Vec::new(), rules, unfreed: Vec::new(), by_this_call: 0 }
     }
 
     pub fn rules(&self) -> Rules {
@@ -42,14 +44,20 @@ impl Ledger {
     }
 
     pub fn holds(&self, number: u32) -> bool {
-        self.entries.iter().any(|entry| entry.number == number)
+        self.seen(Rule::JobsSeeNumbers).iter().any(|entry| entry.number == number)
+    }
+
+    /// The entries that are looked at: with this rule broken, those of earlier calls alone.
+    fn seen(&self, rule: Rule) -> &[Entry] {
+        let unseen = if self.rules.hold(rule) { 0 } else { self.by_this_call };
+        &self.entries[..self.entries.len() - unseen]
     }
 
     /// Every link's free units: its capacity less the units of all entries whose path uses it.
     pub fn free(&self) -> Vec<i64> {
         let mut free: Vec<i64> = self.table.links.iter().map(|link| i64::from(link.capacity)).collect();
-        let taking = self.entries.iter().filter(|_| self.rules.hold(Rule::AdmissionTakes)).chain(&self.unfreed);
-        for entry in taking {
+        let admitted = self.seen(Rule::JobsSeeUnits).iter().filter(|_| self.rules.hold(Rule::AdmissionTakes));
+        for entry in admitted.chain(&self.unfreed) {
             for &link in &entry.path {
                 free[link as usize] -= i64::from(entry.units);
             }

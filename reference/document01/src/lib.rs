@@ -8,6 +8,7 @@
 //! - rows are taken off the front of a class table, and each is held to check 8 as a request (`classes`);
 //! - bookings are a ledger's list of entries as they were admitted (`ledger`), an area is only ever read, and the order
 //!   of its circuits comes of sorting the entries (`area`);
+//! - jobs that come together are taken off the front of their list, and each is an admission (`opening`);
 //! - which of several best paths is granted is open, so a grant is judged (`judge`) and not foretold.
 //!
 //! `Rules` lets a test break one rule at a time, to see that the comparison notices.
@@ -19,6 +20,7 @@ pub mod labels;
 pub mod ledger;
 pub mod lines;
 pub mod link_file;
+pub mod opening;
 pub mod paths;
 pub mod problems;
 pub mod rules;

@@ -62,6 +62,20 @@ pub enum Rule {
     UnusedClear,
     /// A listing is by rising number. Broken: in the order of admission.
     ListedByNumber,
+    /// A refused job does not stop the later ones. Broken: it does.
+    JobsGoOn,
+    /// A job finds the units taken that an earlier job of its list was given. Broken: it finds them free.
+    JobsSeeUnits,
+    /// A job finds the number held that an earlier job of its list was given. Broken: it does not.
+    JobsSeeNumbers,
+    /// A job list is checked before the room for its answers. Broken: after it.
+    JobsBeforeRoom,
+    /// The call gives the number of jobs. Broken: of granted jobs.
+    EveryJobCounts,
+    /// A job list may have 64 jobs. Broken: 63 at most.
+    FullJobList,
+    /// Unused answer words of a job are 0. Broken: they keep theirs.
+    AnswersClear,
     /// Line 5 of the paper puts 0 at each k of the source. Broken: at k = 0 alone.
     SourceAtEachK,
     /// Line 7 takes a k' of x. Broken: less than x alone.

@@ -11,11 +11,18 @@ enum Row {
     Quote([u32; 6], usize, usize),
     Admission(u32, [u32; 6], usize, usize),
     Release(u32),
+    /// All of `JOBS` in one call, and the lengths of work memory and answer buffer.
+    Jobs(usize, usize),
 }
-use Row::{Admission, Quote, Release};
+use Row::{Admission, Jobs, Quote, Release};
+
+/// Circuit number, s, t, units, D, C, coefficient.
+const JOBS: [(u32, [u32; 6]); 4] =
+    [(21, [0, 3, 6, 8, 20, 8]), (22, [0, 3, 1, 8, 20, 8]), (21, [0, 1, 1, 2, 5, 1]), (22, [0, 1, 1, 2, 5, 1])];
+const ANSWER_WORDS: usize = 36;
 
 const W: usize = 16_384;
-const ROWS: [Row; 25] = [
+const ROWS: [Row; 30] = [
     Quote([0, 3, 1, 8, 20, 8], W, 31),
     Admission(7, [0, 3, 4, 8, 20, 8], W, 31),
     Quote([0, 3, 6, 8, 20, 8], W, 31),
@@ -41,6 +48,11 @@ const ROWS: [Row; 25] = [
     Quote([0, 3, 10, 9, 1, 1], W, 31),
     Admission(8, [0, 3, 10, 9, 1, 1], W, 31),
     Admission(65_536, [0, 3, 1, 9, 1, 1], W, 31),
+    Release(9),
+    Jobs(W, 149),
+    Quote([0, 1, 2, 2, 5, 1], W, 31),
+    Jobs(8, 149),
+    Jobs(W, 143),
 ];
 
 fn request(r: &[u32; 6]) -> Request {
@@ -68,6 +80,43 @@ fn judged(ledger: &Ledger, request: &Request, reply: Reply, printed: &str) -> Ve
     }
 }
 
+/// The printed answer to an admission, which is entered in the ledger where it is granted.
+fn judge_admission(ledger: &mut Ledger, number: u32, r: &[u32; 6], work: usize, path: usize, printed: &str) {
+    let granted = judged(ledger, &request(r), ledger.admission(work, path, number, &request(r)), printed);
+    if !granted.is_empty() {
+        ledger.admit(number, r[2], &granted);
+    }
+}
+
+/// The words that answer a job, as an admission's answer is printed: a refusal, or problem, delay, cost and links. Those
+/// that are not used must be 0.
+fn as_printed(words: &[u32]) -> String {
+    let (used, unused) = match words[0] {
+        0 => words.split_at(5 + words[4] as usize),
+        _ => words.split_at(1),
+    };
+    assert!(unused.iter().all(|&word| word == 0), "{words:?}");
+    let fields = match used {
+        [0, problem, delay, cost, _, path @ ..] => [&[*problem, *delay, *cost], path].concat(),
+        _ => vec![0, words[0]],
+    };
+    fields.iter().map(u32::to_string).collect::<Vec<_>>().join(" ")
+}
+
+/// The printed answer to all jobs in one call: each job of it is one admission, with a path buffer of 31 words.
+fn judge_jobs(ledger: &mut Ledger, work: usize, answers: usize, printed: &str) {
+    let needed = ANSWER_WORDS * JOBS.len();
+    if work < W || answers < needed {
+        assert_eq!(printed, format!("0 {}", if work < W { 6 } else { 24 }));
+        return;
+    }
+    let fields = numbers(printed);
+    assert_eq!((fields[0] as usize, fields.len()), (JOBS.len(), 1 + needed));
+    for ((number, r), words) in JOBS.iter().zip(fields[1..].chunks(ANSWER_WORDS)) {
+        judge_admission(ledger, *number, r, work, 31, &as_printed(words));
+    }
+}
+
 fn judge_row(ledger: &mut Ledger, row: &Row, name: &str, printed: &str) {
     match row {
         Quote(r, work, path) => {
@@ -76,15 +125,16 @@ fn judge_row(ledger: &mut Ledger, row: &Row, name: &str, printed: &str) {
         }
         Admission(number, r, work, path) => {
             assert_eq!(name, "admission");
-            let granted = judged(ledger, &request(r), ledger.admission(*work, *path, *number, &request(r)), printed);
-            if !granted.is_empty() {
-                ledger.admit(*number, r[2], &granted);
-            }
+            judge_admission(ledger, *number, r, *work, *path, printed);
         }
         Release(number) => {
             assert_eq!(name, "release");
             let expected = ledger.release(*number).map_or_else(|number| format!("0 {number}"), |()| "released".into());
             assert_eq!(printed, expected);
+        }
+        Jobs(work, answers) => {
+            assert_eq!(name, "jobs");
+            judge_jobs(ledger, *work, *answers, printed);
         }
     }
 }

@@ -45,6 +45,17 @@ mod raw {
             answer: *mut u32,
         ) -> u32;
         pub fn line_release(area: *mut u32, area_words: usize, circuit: u32) -> u32;
+        pub fn line_admit_jobs(
+            area: *mut u32,
+            area_words: usize,
+            work: *mut u32,
+            work_words: usize,
+            jobs: *const u32,
+            job_words: usize,
+            answers: *mut u32,
+            answer_words: usize,
+            answer: *mut u32,
+        ) -> u32;
         pub fn line_list(
             area: *const u32,
             area_words: usize,
@@ -133,6 +144,22 @@ pub fn admit(
 
 pub fn release(area: &mut [u32], circuit: u32) -> u32 {
     unsafe { raw::line_release(area.as_mut_ptr(), area.len(), circuit) }
+}
+
+pub fn admit_jobs(area: &mut [u32], work: &mut [u32], jobs: &[u32], answers: &mut [u32], answer: &mut [u32; 1]) -> u32 {
+    unsafe {
+        raw::line_admit_jobs(
+            area.as_mut_ptr(),
+            area.len(),
+            work.as_mut_ptr(),
+            work.len(),
+            jobs.as_ptr(),
+            jobs.len(),
+            answers.as_mut_ptr(),
+            answers.len(),
+            answer.as_mut_ptr(),
+        )
+    }
 }
 
 pub fn list(area: &[u32], numbers: &mut [u32], answer: &mut [u32; 1]) -> u32 {

@@ -1,109 +1,26 @@
--- The checks refuse in their order, then the search replies; a grant's path is read back from the path buffer and stored,
--- and a refusal stores nothing.
-use Rattle.std.proofs.Common.{◌≡◌, length, refl, sym, ap, ◌∙◌, arith, rules}
-use Rattle.area.specs.Refusals.{refuses, grants, number, numbered}
-use Rattle.area.proofs.ReadCases.{formed_long}
-use Rattle.area.proofs.Places.{place_of_most}
-use Rattle.area.proofs.WordsAt.{words_length}
-use Rattle.rules.specs.Calls.{searched, request_checked, number_checked}
-use Rattle.rules.specs.Replies.{answer_of, path_after}
-use Rattle.rules.specs.Meaning.{books_in}
-use Rattle.rules.proofs.CallCases.{all_passed, number_passed, admission_unfit, admission_refused, number_refused, admission_passed}
-use Rattle.rules.proofs.Granting.{stored_as, unstored, granted_short, admitted_as, refusal_admitted}
+-- An area that is not well formed is refused; on a well-formed one it is the admission there, and what that wrote means what the rules
+-- say.
+use Rattle.std.proofs.Common.{◌≡◌, length, refl, sym, rules}
+use Rattle.area.specs.Refusals.{refuses, numbered}
+use Rattle.rules.specs.Calls.{admission}
+use Rattle.rules.proofs.CallCases.{admission_unfit}
+use Rattle.rules.proofs.Granting.{admitted_as, refusal_admitted}
 use Rattle.booking.proofs.calls.admit.Goals as goal
 
-pub returns-in_err-station : goal.returns-in_err-station
-returns-in_err-station c =
+pub returns-in_err-free : goal.returns-in_err-free
+returns-in_err-free c =
     let w = c.args.area.now in
     let work = length c.args.work.now in
     let l = c.args.path.now in
     let says : numbered c.from_residual.result ≡ refuses 5 = search rules in
-    let a = refusal_admitted w work l c.args.circuit c.args.r 5 (admission_unfit w work (length l) c.args.circuit c.args.r (sym c.in_err-station.ensures.formed)) in
+    let a = refusal_admitted w work l c.args.circuit c.args.r 5 (admission_unfit w work (length l) c.args.circuit c.args.r (sym c.in_err-free.ensures.formed)) in
     record { answer = rw says a.0; path = a.1.0; area = a.1.1.0; means = rw says a.1.1.1 }
 
-pub returns-in_err-check_request : goal.returns-in_err-check_request
-returns-in_err-check_request c =
+pub returns-clause-means : goal.returns-clause-means
+returns-clause-means c =
     let w = c.args.area.now in
     let work = length c.args.work.now in
     let l = c.args.path.now in
-    let k = number c.in_err-check_request.field-0.0 in
-    let says : numbered c.from_residual-in_err-check_request.result ≡ refuses k = search rules in
-    let fails : refuses k ≡ request_checked w work (length l) c.args.r = rw (← c.in_ok-station.ensures.area) c.in_err-check_request.ensures in
-    let a = refusal_admitted w work l c.args.circuit c.args.r k
-    (admission_refused w work (length l) c.args.circuit c.args.r (sym c.in_ok-station.ensures.formed) k fails) in
-    record { answer = rw says a.0; path = a.1.0; area = a.1.1.0; means = rw says a.1.1.1 }
-
-pub returns-in_err-j : goal.returns-in_err-j
-returns-in_err-j c =
-    let w = c.args.area.now in
-    let work = length c.args.work.now in
-    let l = c.args.path.now in
-    let k = number c.in_err-j.field-0.0 in
-    let says : numbered c.from_residual-in_err-j.result ≡ refuses k = search rules in
-    let passes : grants tt ≡ request_checked w work (length l) c.args.r = rw (← c.in_ok-station.ensures.area) c.in_ok-check_request.ensures in
-    let fails : refuses k ≡ number_checked w c.args.circuit = rw (← c.in_ok-station.ensures.area) c.in_err-j.ensures in
-    let a = refusal_admitted w work l c.args.circuit c.args.r k
-    (number_refused w work (length l) c.args.circuit c.args.r (sym c.in_ok-station.ensures.formed) passes k fails) in
-    record { answer = rw says a.0; path = a.1.0; area = a.1.1.0; means = rw says a.1.1.1 }
-
-pub find_path-requires : goal.find_path-requires
-find_path-requires c =
-    let p = all_passed _ _ _ _ c.in_ok-check_request.ensures in
-    record { memory = p.memory; buffer = p.buffer; request = p.request }
-
-pub returns-in_err-grant : goal.returns-in_err-grant
-returns-in_err-grant c =
-    let w = c.args.area.now in
-    let work = length c.args.work.now in
-    let l = c.args.path.now in
-    let same = c.in_ok-station.ensures.area in
     let r = c.args.r in
-    let k = number c.in_err-grant.field-0.0 in
-    let says : numbered c.from_residual-in_err-grant.result ≡ refuses k = search rules in
-    let fails : refuses k ≡ answer_of (searched (books_in w) r) = rw (← same) c.in_err-grant.ensures.answer in
-    let passes : grants tt ≡ request_checked w work (length l) r = rw (← same) c.in_ok-check_request.ensures in
-    let new : grants c.in_ok-j.j ≡ number_checked w c.args.circuit = rw (← same) c.in_ok-j.ensures in
-    let a = admitted_as w work l c.args.circuit r (searched (books_in w) r)
-    (admission_passed w work (length l) c.args.circuit r (sym c.in_ok-station.ensures.formed) passes _ new)
-    _ fails _ (rw (← same) c.find_path.ensures.path) w (unstored w c.args.circuit r.terms.units k (searched (books_in w) r) fails) in
-    record { answer = rw says a.0; path = a.1.0; area = a.1.1.0; means = rw says a.1.1.1 }
-
-pub part-links-requires : goal.part-links-requires
-part-links-requires c =
-    let p = all_passed c.in_ok-station.station.area.now (length c.args.work.now) (length c.args.path.now) c.args.r c.in_ok-check_request.ensures in
-    let short = granted_short c.in_ok-station.station.area.now c.args.r c.in_ok-station.station.formed p.request _ (sym c.in_ok-grant.ensures.answer) in
-    omega (arith, short, p.buffer, c.find_path.auto.path)
-
-pub add-requires-clause-area_words_in_bounds : goal.add-requires-clause-area_words_in_bounds
-add-requires-clause-area_words_in_bounds c = formed_long c.args.area.now (sym c.in_ok-station.ensures.formed)
-
-pub add-requires-clause-area_bound : goal.add-requires-clause-area_bound
-add-requires-clause-area_bound c = rw (← c.in_ok-station.ensures.area) (number_passed _ _ _ c.in_ok-j.ensures).0
-
-pub add-requires-clause-j_bound : goal.add-requires-clause-j_bound
-add-requires-clause-j_bound c =
-    rw (← c.in_ok-station.ensures.area, (number_passed _ _ _ c.in_ok-j.ensures).1)
-    (place_of_most c.in_ok-station.station.area.now c.args.circuit)
-
-pub add-requires-clause-path_len_bound : goal.add-requires-clause-path_len_bound
-add-requires-clause-path_len_bound c =
-    let p = all_passed c.in_ok-station.station.area.now (length c.args.work.now) (length c.args.path.now) c.args.r c.in_ok-check_request.ensures in
-    let short = granted_short c.in_ok-station.station.area.now c.args.r c.in_ok-station.station.formed p.request _ (sym c.in_ok-grant.ensures.answer) in
-    omega (arith, short, ap length c.part-links.ensures, words_length c.find_path.new.path 0 c.in_ok-grant.grant.links)
-
-pub returns : goal.returns
-returns c =
-    let w = c.args.area.now in
-    let work = length c.args.work.now in
-    let l = c.args.path.now in
-    let same = c.in_ok-station.ensures.area in
-    let r = c.args.r in
-    let grant : grants c.in_ok-grant.grant ≡ answer_of (searched (books_in w) r) = rw (← same) c.in_ok-grant.ensures.answer in
-    let holds : c.find_path.new.path ≡ path_after (searched (books_in w) r) l = rw (← same) c.find_path.ensures.path in
-    let passes : grants tt ≡ request_checked w work (length l) r = rw (← same) c.in_ok-check_request.ensures in
-    let new : grants c.in_ok-j.j ≡ number_checked w c.args.circuit = rw (← same) c.in_ok-j.ensures in
-    let stored = stored_as w c.args.circuit r.terms.units _ l (searched (books_in w) r) (sym grant) _ (number_passed w c.args.circuit _ new).1 _ holds _ refl _ c.part-links.ensures in
-    let a = admitted_as w work l c.args.circuit r (searched (books_in w) r)
-    (admission_passed w work (length l) c.args.circuit r (sym c.in_ok-station.ensures.formed) passes _ new)
-    _ grant _ holds _ (c.add.ensures ∙ stored) in
-    record { answer = a.0; path = a.1.0; area = a.1.1.0; means = a.1.1.1 }
+    (admitted_as w work l c.args.circuit r (admission w work (length l) c.args.circuit r) refl _ c.admit_formed.ensures.answer _
+    c.admit_formed.ensures.path _ c.admit_formed.ensures.area).1.1.1

@@ -1,6 +1,6 @@
 -- At first the whole list and the whole text are left; a turn makes the next row's call; at the end nothing is left.
 use Rattle.std.proofs.Common.{refl, ap, arith, rules, ◌∙◌, ◌++◌, List, ℕ}
-use Rattle.call_list.specs.Calls.{calls}
+use Rattle.call_list.specs.Calls.{row_count, calls}
 use Rattle.call_list.proofs.CallCases.{fewer, none_left}
 use Rattle.history.specs.Lines.{text_from}
 use Rattle.history.proofs.LineBytes.{text_none, text_turn, text_end}
@@ -10,7 +10,7 @@ pub loop-k-init : goal.loop-k-init
 unfolding calls
 loop-k-init c = record {
   area = refl;
-  text = ap (λ (l : List ℕ). l ++ text_from c.args.struck c.args.area.now 0 25) c.new-text.ensures ∙ text_none c.args.struck c.args.area.now;
+  text = ap (λ (l : List ℕ). l ++ text_from c.args.struck c.args.area.now 0 row_count) c.new-text.ensures ∙ text_none c.args.struck c.args.area.now;
   most = search rules;
 }
 

@@ -1,7 +1,9 @@
 -- The first part that fails makes the area not well formed; past the table the circuits and their units decide.
-use Rattle.std.proofs.Common.{arith, refl, sym, ◌∙◌}
+use Rattle.std.proofs.Common.{◌≡◌, true, is_some, IfSome, arith, refl, sym, ◌∙◌}
+use Rattle.std.specs.declared.option.Option.{Option}
+use Rattle.std.specs.declared.option.Option.TheVariants.{None, Some}
 use Rattle.area.proofs.CheckCases.{area_short, table_out, circuits_many, circuits_left, units_left}
-use Rattle.station.proofs.formed.Station.parse.Goals as goal
+use Rattle.station.proofs.formed.parse.Goals as goal
 
 pub returns-then-area-lt-AREA_WORDS-clause-formed : goal.returns-then-area-lt-AREA_WORDS-clause-formed
 returns-then-area-lt-AREA_WORDS-clause-formed c = area_short c.args.area.now (omega arith)
@@ -14,23 +16,25 @@ pub returns-then-count-gt-MOST_CIRCUITS-clause-formed : goal.returns-then-count-
 returns-then-count-gt-MOST_CIRCUITS-clause-formed c =
     circuits_many c.args.area.now (omega arith) c.in_ok-table.ensures.fits (omega arith)
 
-pub returns-in_err-free-clause-formed : goal.returns-in_err-free-clause-formed
-returns-in_err-free-clause-formed c =
-    rw c.from_residual-in_err-free.ensures
-    (c.in_err-free.ensures.fit
+pub returns-clause-formed : goal.returns-clause-formed
+returns-clause-formed c =
+    c.free_units.ensures.fit
     ∙ circuits_left c.args.area.now (omega arith) c.in_ok-table.ensures.fits (omega arith) _ _ _ c.in_ok-table.ensures.count
-    c.in_ok-table.ensures.words refl)
+    c.in_ok-table.ensures.words refl
 
-pub invariant_of-result : goal.invariant_of-result
-invariant_of-result c =
+-- what a value has by being there
+some_then : {A : Type 0} (o : Option A) {P Q : A → Type 0} → IfSome o P → ((a : A) → is_some o ≡ true → P a → Q a) → IfSome o Q
+some_then None p then = tt
+some_then (Some a) p then = then a refl p
+
+pub returns-clause-units : goal.returns-clause-units
+returns-clause-units c =
     let formed =
-    c.in_ok-free.ensures.fit
+    c.free_units.ensures.fit
     ∙ circuits_left c.args.area.now (omega arith) c.in_ok-table.ensures.fits (omega arith) _ _ _ c.in_ok-table.ensures.count
     c.in_ok-table.ensures.words refl in
-    record {
-      formed = sym formed;
-      units = λ i.
-          c.in_ok-free.ensures.free i
-          ∙ units_left c.args.area.now (omega arith) c.in_ok-table.ensures.fits (omega arith) _ _ _ c.in_ok-table.ensures.count
-          c.in_ok-table.ensures.words refl formed i;
-    }
+    some_then c.free_units.result c.free_units.ensures.free
+    (λ free is counted i.
+    counted i
+    ∙ units_left c.args.area.now (omega arith) c.in_ok-table.ensures.fits (omega arith) _ _ _ c.in_ok-table.ensures.count
+    c.in_ok-table.ensures.words refl (sym is ∙ formed) i)
