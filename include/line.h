@@ -1,7 +1,7 @@
 /*
  * The line controller's calls for C and C++. docs/MANUAL.md is the reference manual. Link with the archive that
- * tests/support/archive makes, target/staticlib/libline.a; it is for x86-64, and of the C library it needs memcpy,
- * memmove and memset alone.
+ * tests/support/archive makes, target/staticlib/libline.a; it is for x86-64, and of the C library it needs memcpy and
+ * memset alone.
  *
  * All numbers are 32-bit unsigned words. Each function returns 0 for a grant, or else one of the refusal numbers
  * below, the first that applies in the order given at the function. A refusal leaves every buffer as it was, but for

@@ -1,11 +1,16 @@
 -- What a load, a call and a reading answer, and a path, as the rest of a line in ASCII, up to its newline (byte 10):
 -- the contracts of `src/` cite it.
 -- Assumes nothing.
-use Rattle.std.specs.Prelude.{ℕ, List, [], ◌∷◌, ◌++◌, take}
+use Rattle.std.specs.Prelude.{ℕ, List, [], ◌∷◌, ◌++◌, take, Result, Ok, Err}
 use Rattle.network.specs.declared.Grant.{Grant}
 use Rattle.network.specs.Reduce.{problem_number}
 use Rattle.area.specs.Refusals.{Reply, refuses, grants}
 use Rattle.text_format.specs.Fields.{fields}
+
+-- an answer that has its refusal as a number, whichever that is (`lent` puts such answers)
+abbrev pub reply : {A : Type 0} → Result A ℕ → Reply A
+reply (Err k) = refuses k
+reply (Ok a) = grants a
 
 -- a field for each of these numbers, and the newline
 unfoldable pub line_text : List ℕ → List ℕ

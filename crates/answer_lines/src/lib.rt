@@ -1,9 +1,11 @@
 // What a load, a call and a reading answer, and a path, as text: the rest of a line behind what the line is about, with
-// its newline. Each function appends its bytes to a text, as those of `text` do; a field has at most eleven bytes. The
-// programs that print what the calls answer write the bytes.
+// its newline. Each function appends its bytes to a text, as those of `text` do, which the programs that print what the calls
+// answer make by value; a field has at most eleven bytes. A caller with no room for a text of its own has a lent slice, and
+// `lent` puts the same bytes into that.
 #![tactic(auto)]
 
 mod granted;
+pub mod lent;
 
 ghost use Rattle.std.specs.Prelude.{◌≡◌, ◌+◌, ◌*◌, ◌≤◌, ◌++◌, length};
 ghost use Rattle.arrayvec.specs.ArrayVec.{array_vec_len};

@@ -55,7 +55,7 @@ pub fn admit(
     ensures area { area.new ≡ booked area.old circuit r.terms.units (admission area.old (length work.old) (length path.old) circuit r) }
     ensures means { AdmissionMeans area.old (length work.old) path.old circuit r (numbered result) path.new area.new }
 {
-    let free = station::free_in(area)?;
+    let free: [u32; MOST_LINKS] = station::free_in(area)?;
     admit_formed(area, &free, work, path, circuit, r)
 }
 

@@ -11,6 +11,7 @@ use network::limits::MOST_LINKS;
 use network::{Grant, Request};
 use route::Network;
 use station::Station;
+use station::usable::put_usable;
 
 // Searches for a path for `r` on a station. Both callers come here past their checks. Work memory is open after.
 pub fn find_path(
@@ -24,7 +25,7 @@ pub fn find_path(
     ensures path { path.new ≡ path_after (searched (books_in station.now.area.now) r) path.old }
 {
     let mut usable = [false; MOST_LINKS];
-    station.put_usable(r.terms.units, &mut usable);
+    put_usable(station.free, r.terms.units, &mut usable);
     let mut delays = [0; MOST_LINKS];
     station.put_delays(r.target as usize, &mut delays);
     let mut costs = [0; MOST_LINKS];

@@ -1,5 +1,5 @@
 // The links of a table: five words a link, in the order from, to, delay, cost, capacity.
-ghost use Rattle.std.specs.Prelude.{◌≡◌, ◌*◌, ◌<◌, ◌≤◌, length};
+ghost use Rattle.std.specs.Prelude.{◌≡◌, ◌+◌, ◌*◌, ◌<◌, ◌≤◌, length};
 ghost use Rattle.network.specs.Limits.{link_words, most_links};
 ghost use Rattle.network.specs.Words.{field};
 
@@ -13,6 +13,16 @@ pub struct Link {
     pub delay: u32,
     pub cost: u32,
     pub capacity: u32,
+}
+
+// Word `j` of link `i`. The callers have checked that the words reach so far; a `Links` knows it.
+pub fn word(words: &[u32], i: usize, j: usize) -> u32
+    requires i_lt_most_links { i < most_links }
+    requires j_lt_link_words { j < link_words }
+    requires link_words_in_bounds { link_words * i + link_words ≤ length words.now }
+    ensures { result ≡ field words.now i j }
+{
+    words[LINK_WORDS * i + j]
 }
 
 // The words of a table, and how many links they are.
@@ -34,13 +44,12 @@ impl<'a> Links<'a> {
         ensures cost { result.cost ≡ field self.now.words.now i 3 }
         ensures capacity { result.capacity ≡ field self.now.words.now i 4 }
     {
-        let at = LINK_WORDS * i;
         Link {
-            from: self.words[at] as usize,
-            to: self.words[at + 1] as usize,
-            delay: self.words[at + 2],
-            cost: self.words[at + 3],
-            capacity: self.words[at + 4],
+            from: word(self.words, i, 0) as usize,
+            to: word(self.words, i, 1) as usize,
+            delay: word(self.words, i, 2),
+            cost: word(self.words, i, 3),
+            capacity: word(self.words, i, 4),
         }
     }
 }

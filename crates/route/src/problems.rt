@@ -12,8 +12,8 @@ use network::limits::{MOST_LINKS, WORK_WORDS};
 use network::{Grant, NoRoute, Reduction, Request};
 use search::Hop;
 
-// The answer of problem `which` of request `r` at `x`. From here on work memory has its length in its type: `ready` says
-// that the words are there, so no contract below has to.
+// The answer of problem `which` of request `r` at `x`. Its links are listed in `hops`, whatever stands there before. From here on
+// work memory has its length in its type: `ready` says that the words are there, so no contract below has to.
 fn reduced_problem(
     net: &Network<'_>,
     work: &mut [u32],
@@ -21,6 +21,7 @@ fn reduced_problem(
     r: Request,
     x: usize,
     which: Reduction,
+    hops: &mut [Hop; MOST_LINKS],
 ) -> Result<Grant, NoRoute>
     requires ready { Ready net.now.nodes work.old path.old r }
     requires x_le_most_x { x ≤ most_x }
@@ -28,8 +29,7 @@ fn reduced_problem(
     ensures path { path.new ≡ path_after (outcome_by (described net.now) r x which) path.old }
 {
     let memory = work.first_chunk_mut::<WORK_WORDS>().unwrap();
-    let mut hops = [Hop::default(); MOST_LINKS];
-    let p = net.reduced(r, x, which, &mut hops);
+    let p = net.reduced(r, x, which, hops);
     let s = r.source as usize;
     let t = r.target as usize;
     attempt(net, &p, memory, path, s, t, which)
@@ -49,9 +49,10 @@ pub fn both_problems(
     ensures answer { result ≡ search_answer_of (described net.now) (tried (described net.now) r x) }
     ensures path { path.new ≡ path_after (tried (described net.now) r x) path.old }
 {
-    let first = reduced_problem(net, work, path, r, x, Reduction::One);
+    let mut hops = [Hop::default(); MOST_LINKS];
+    let first = reduced_problem(net, work, path, r, x, Reduction::One, &mut hops);
     let Err(NoRoute::NoSolution) = first else {
         return first;
     };
-    reduced_problem(net, work, path, r, x, Reduction::Two)
+    reduced_problem(net, work, path, r, x, Reduction::Two, &mut hops)
 }

@@ -1,4 +1,5 @@
 -- Lemmas of this crate's proofs.
 mod Closed
 mod Opened
+mod Put
 mod Unused

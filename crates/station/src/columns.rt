@@ -1,26 +1,14 @@
-// What a search is handed of a station beside the links, a number for each: whether it is usable for a request, its delay as
-// the request sees it, and its cost. The entries past the links say nothing. They are written where the caller has them, so
-// that nothing is copied.
-ghost use Rattle.std.specs.Prelude.{◌≡◌, false, ℕ, ◌<◌, get_or, leb};
+// What a search is handed of a station beside the links and their flags, a number for each: its delay as the request sees it, and
+// its cost. The entries past the links say nothing. They are written where the caller has them, so that nothing is copied.
+ghost use Rattle.std.specs.Prelude.{◌≡◌, ℕ, ◌<◌, get_or};
 ghost use Rattle.area.specs.Station.{nodes_in, links_in, table_in, cost_of};
 ghost use Rattle.area.specs.Books.{hold_into, delay_to};
-ghost use Rattle.area.specs.FreeIn.{free_in};
 
 use crate::formed::Station;
 use crate::layout;
 use network::limits::{MOST_LINKS, MOST_NODES};
 
 impl Station<'_> {
-    // Writes which links are usable for a request of so many units: those of which at least these are free.
-    pub fn put_usable(&self, units: u32, usable: &mut [bool; MOST_LINKS])
-        ensures { (i : ℕ) → i < links_in self.now.area.now → get_or usable.new i false ≡ leb units (free_in self.now.area.now i) }
-    {
-        let links = self.links();
-        for i in 0..links.count {
-            usable[i] = units <= self.free[i];
-        }
-    }
-
     // How long a message to `target` is held in node `v`: not at all where it arrives.
     #[tactic(auto, using(area::proofs::ReadCases::formed_long, area::proofs::ReadCases::formed_nodes, area::proofs::TableCases::hold_word))]
     fn hold_into(&self, target: usize, v: usize) -> u32

@@ -1,7 +1,8 @@
 // Document 01's layout of an area, each number under one name, which all other code cites: it is changed here and in `area`
-// `Layout`, which has the same names for the definitions. Besides, a lent part of an area's words. The area is a lent slice
-// of words, read and written by index.
+// `Layout`, which has the same names for the definitions. Besides, a lent part of an area's words, and words put from a place
+// on. The area is a lent slice of words, read and written by index.
 ghost use Rattle.std.specs.Prelude.{◌≡◌, ◌+◌, ◌≤◌, length};
+ghost use Rattle.std.proofs.lemmas.List.Edits.{sets};
 ghost use Rattle.area.specs.Layout.{most_circuits, figures};
 ghost use Rattle.area.specs.Station.{place, words_at};
 
@@ -75,4 +76,16 @@ pub fn part(words: &[u32], at: usize, n: usize) -> &[u32]
 {
     let end = at + n;
     &words[at..end]
+}
+
+// Puts `words` into the area from `at` on. Load has checked the length of the area, and an admission its circuit count. They are put
+// one by one, as lent words may overlap for all that the compiler knows: `copy_from_slice` would need `memmove` of the C library,
+// and the archive asks for `memcpy` and `memset` alone.
+pub(crate) fn put(area: &mut [u32], at: usize, words: &[u32])
+    requires { at + length words.now ≤ length area.old }
+    ensures { area.new ≡ sets area.old at words.now }
+{
+    for i in 0..words.len() {
+        area[at + i] = words[i];
+    }
 }

@@ -15,6 +15,7 @@ pub mod reads;
 pub mod store;
 mod table;
 mod units;
+pub mod usable;
 
 pub use crate::formed::{Station, free_in};
 pub use crate::units::take_units;

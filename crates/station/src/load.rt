@@ -35,12 +35,10 @@ pub fn load(n: u32, links: &[u32], hold_times: &[u32], area: &mut [u32]) -> Resu
     if !hold_times_fit(n as usize, hold_times) {
         return Err(Refusal::HoldRange);
     }
-    let end = layout::FIRST_LINK + links.len();
-    area[layout::FIRST_LINK..end].copy_from_slice(links);
+    layout::put(area, layout::FIRST_LINK, links);
     area[layout::NODES] = n;
     area[layout::LINKS] = count as u32;
     area[layout::HELD] = 0;
-    let end = layout::FIRST_HOLD + hold_times.len();
-    area[layout::FIRST_HOLD..end].copy_from_slice(hold_times);
+    layout::put(area, layout::FIRST_HOLD, hold_times);
     Ok(())
 }

@@ -29,7 +29,7 @@ fn write_circuit(area: &mut [u32], at: usize, number: u32, units: u32, path: &[u
     area[at] = number;
     area[at + 1] = units;
     area[at + 2] = path.len() as u32;
-    area[start..end].copy_from_slice(path);
+    layout::put(area, start, path);
     area[end..at + layout::CIRCUIT_WORDS].fill(0);
 }
 

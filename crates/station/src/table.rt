@@ -75,7 +75,7 @@ pub struct Table<'a> {
 }
 
 impl<'a> Table<'a> {
-    // The table of an area of full length, where its numbers are in their ranges. `Station::read` tests the length.
+    // The table of an area of full length, where its numbers are in their ranges. `formed::parse` tests the length.
     pub fn read(area: &'a [u32]) -> Option<Table<'a>>
         requires { area_words ≤ length area.now }
         ensures fits { is_some result ≡ table_fits (table_in area.now) }

@@ -16,16 +16,16 @@ use links::link::Links;
 use links::node_set::NodeSet;
 use network::limits::MOST_LINKS;
 
-// The capacity of link `i`; 0 past the links of the table.
-#[tactic(auto, using(network::proofs::Past::past_links))]
-fn capacity(links: &Links<'_>, i: usize) -> u32
-    ensures { result ≡ field links.now.words.now i 4 }
+// The capacity of each link; 0 past the links of the table. Only as many entries are written as there are links: a station
+// mostly has far fewer than a table has room for, and every call comes here.
+fn capacities(links: &Links<'_>) -> [u32; MOST_LINKS]
+    ensures { (i : ℕ) → get_or result i 0 ≡ field links.now.words.now i 4 }
 {
-    if i < links.count {
-        links.get(i).capacity
-    } else {
-        0
+    let mut words = [0; MOST_LINKS];
+    for i in 0..links.count {
+        words[i] = links.get(i).capacity;
     }
+    words
 }
 
 // Whether link `i` goes on from node `v`, to a node that is not in `seen`.
@@ -85,7 +85,7 @@ pub fn free_units(table: &Table<'_>, places: &Places<'_>) -> Option<[u32; MOST_L
         let cs = circuits places.now.area.now places.now.count in
         IfSome result (λ free. (i : ℕ) → get_or free i 0 ≡ field words i 4 - usage cs i) }
 {
-    let mut free = std::array::from_fn(|i| capacity(&table.links, i));
+    let mut free = capacities(&table.links);
     for j in 0..places.count {
         let circuit = places.get(j)?;
         if !take(table, &mut free, &circuit) {

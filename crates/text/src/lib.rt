@@ -1,6 +1,9 @@
-// Numbers and fields as text: each function appends its bytes to a text of fixed room. What they require, their callers know
-// by counting: a word has at most ten digits. `answer_lines` and the programs call them.
+// Numbers and fields as text: each function appends its bytes to a text of fixed room, which a program makes by value. A
+// caller with no room for a text of its own has a lent slice, and `lent` puts the same bytes into that. What they require,
+// their callers know by counting: a word has at most ten digits. `answer_lines` and the programs call them.
 #![tactic(auto)]
+
+pub mod lent;
 
 ghost use Rattle.std.specs.Prelude.{◌≡◌, ◌+◌, ◌*◌, ◌≤◌, ◌++◌, length};
 ghost use Rattle.arrayvec.specs.ArrayVec.{array_vec_len};

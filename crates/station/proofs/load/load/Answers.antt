@@ -1,13 +1,10 @@
 -- The first check that fails refuses and the area stays; where all pass, the stores make the loaded area.
-use Rattle.std.proofs.Common.{arith, ◌+◌, ◌-◌, ◌/◌, length, ◌∙◌}
-use Rattle.std.proofs.Math.ListN.{set, length-set}
-use Rattle.std.proofs.Math.Seq.{sets, length-sets}
+use Rattle.std.proofs.Common.{arith, ◌∙◌}
+use Rattle.std.proofs.Math.ListN.{length-set}
+use Rattle.std.proofs.Math.Seq.{length-sets}
 use Rattle.std.proofs.lemmas.Grind.{common_steps}
-use Rattle.network.specs.Limits.{link_words}
-use Rattle.area.specs.Layout.{first_hold}
 use Rattle.area.specs.Load.{input_of}
 use Rattle.area.proofs.LoadCases.{area_short, nodes_out, words_out, link_out, hold_out, all_pass, stored_loaded, holds_room}
-use Rattle.area.proofs.Stores.{put_sets}
 use Rattle.station.proofs.load.load.Goals as goal
 
 pub returns-then-area-lt-AREA_WORDS-clause-answer : goal.returns-then-area-lt-AREA_WORDS-clause-answer
@@ -53,18 +50,11 @@ returns-clause-answer c =
 pub returns-clause-area : goal.returns-clause-area
 returns-clause-area c =
     let w = c.args.area.now in
-    let room = holds_room w c.args.n c.args.hold_times.now (omega arith) (grind (arith, common_steps)) (cc) in
-    rw (
-      put_sets w c.args.links.now c.copy_from_slice.new.self 3 (3 + length c.args.links.now - 3) c.copy_from_slice.ensures.after (omega arith) (omega arith),
-      put_sets (set (set (set (sets w 3 c.args.links.now) 0 c.args.n) 1 (length c.args.links.now / link_words)) 2 0) c.args.hold_times.now
-          c.copy_from_slice-2.new.self first_hold (first_hold + length c.args.hold_times.now - first_hold) c.copy_from_slice-2.ensures.after (omega arith)
-          (simp (length-set, length-sets) (omega (arith, room))),
-    )
+    rw (c.put-2.ensures, c.put.ensures)
     (stored_loaded w (input_of c.args.n c.args.links.now c.args.hold_times.now) (omega arith)
     ∙ (all_pass w (input_of c.args.n c.args.links.now c.args.hold_times.now) (omega arith) (grind (arith, common_steps)) c.if-links-ne0.false (omega arith) (cc) (cc)).1)
 
-pub slice_bounds-copy_from_slice-end-2 : goal.slice_bounds-copy_from_slice-end-2
-slice_bounds-copy_from_slice-end-2 c =
+pub put-requires-2 : goal.put-requires-2
+put-requires-2 c =
     let room = holds_room c.args.area.now c.args.n c.args.hold_times.now (omega arith) (grind (arith, common_steps)) (cc) in
-    rw (put_sets c.args.area.now c.args.links.now c.copy_from_slice.new.self 3 (3 + length c.args.links.now - 3) c.copy_from_slice.ensures.after (omega arith) (omega arith))
-    (simp (length-set, length-sets) (omega (arith, room)))
+    rw c.put.ensures (simp (length-set, length-sets) (omega (arith, room)))

@@ -1,23 +1,13 @@
 -- Before the first circuit every link has its capacity free; a circuit that fits takes its units; words that do not fit, a path
 -- that is none and units that are not free decide; and after the last what is free is what is left.
-use Rattle.std.proofs.Common.{arith, rules, tests, ◌≡◌, refl, sym, ◌∙◌}
-use lib.ListN.{get_or-eq_default}
-use Rattle.network.specs.Limits.{most_links}
-use Rattle.network.specs.Words.{field}
-use Rattle.network.proofs.Past.{past_links}
-use Rattle.network.proofs.Tests.{by_lt}
-use Rattle.area.proofs.Arrays.{made_at}
+use Rattle.std.proofs.Common.{arith, refl}
 use Rattle.area.proofs.CircuitUnits.{passed_none, words_out, take_out, take_more, passed_all, passed_left}
 use Rattle.station.proofs.units.free_units.Goals as goal
 
 pub loop-j-init : goal.loop-j-init
 loop-j-init c =
     let t = c.args.table.now in
-    passed_none t.links.count t.links.words.now c.args.places.now.area.now c.from_fn-free.result
-    (λ i.
-    by_lt i most_links
-    (made_at _ _ (λ k y. y ≡ field t.links.words.now k 4) (λ k y q called. search (rules, tests)) c.from_fn-free.result 0 most_links c.from_fn-free.ensures.items i)
-    (λ high. get_or-eq_default c.from_fn-free.result 0 (omega arith) ∙ sym (past_links t.links.words.now t.links.count i 4 t.links.whole (omega arith))))
+    passed_none t.links.count t.links.words.now c.args.places.now.area.now c.capacities-free.result c.capacities-free.ensures
 
 pub returns-in_err-circuit-clause-fit : goal.returns-in_err-circuit-clause-fit
 returns-in_err-circuit-clause-fit c =
