@@ -1,6 +1,7 @@
 // The same texts in a lent slice: each function puts its bytes over what stands there from a place on, and answers the place
 // behind them, as those of `text::lent` do. A caller that has no room for a text of its own calls these. A refusal comes as its
-// number, and any number is put; a caller with a `Refusal` writes `.map_err(Into::into)`.
+// number, and any number is put; a caller with a `Refusal` writes `.map_err(Into::into)`. The room that they require a caller knows
+// by counting, eleven bytes for a field; the programs make their texts by value and call none of these.
 ghost use Rattle.std.specs.Prelude.{◌≡◌, ◌+◌, ◌*◌, ◌≤◌, [], ◌∷◌, ◌++◌, length};
 ghost use Rattle.std.proofs.lemmas.List.Edits.{sets};
 ghost use Rattle.text_format.specs.Fields.{fields};

@@ -1,6 +1,7 @@
 // The same texts in a lent slice: each function puts its bytes over what stands there from a place on, and answers the place
 // behind them. A caller with no room for a text of its own calls these, or one whose text goes among bytes that it has. What
-// stands before the place and behind the bytes put stays so, as `sets` says.
+// stands before the place and behind the bytes put stays so, as `sets` says. The room that they require a caller knows by counting,
+// as `answer_lines::lent` does.
 ghost use Rattle.std.specs.Prelude.{◌≡◌, ◌+◌, ◌*◌, ◌≤◌, length};
 ghost use Rattle.std.proofs.lemmas.List.Edits.{sets};
 ghost use Rattle.text_format.specs.Decimal.{decimal};
